@@ -24,8 +24,9 @@ use Rattle.otel_http_post.specs.declared.error.AnswerError.{AnswerError}
 use Rattle.otel_http_post.specs.declared.error.AnswerError.TheVariants as errors
 use Rattle.otel_http_post.specs.declared.head.AnswerHead.{AnswerHead}
 use Rattle.otel_http_post.specs.Answer.{AnswersBy, BeginsBy, BeginsUnanswered, HasNoAnswer, IsLeft}
-use Rattle.otel_http_post.specs.Answer.{unanswered_by}
-use Rattle.otel_http_post.specs.Following.{HasBody, HasHead, HasNoEnd, HasNone, IsInBody, IsWaiting, runs_on}
+use Rattle.otel_http_post.specs.Answer.{has_nothing, unanswered_by}
+use Rattle.otel_http_post.specs.Following.{HasBody, HasHead, HasNoEnd, HasNone, IsInBody, IsWaiting}
+use Rattle.otel_http_post.specs.Following.{LeavesBody, is_nothing, runs_on}
 use Rattle.otel_http_post.specs.Request.{HasAsked, asked_by, limits}
 
 asked_by_waits : (headers : List Header) (plan : Result Plan WriteError) (len : ℕ)
@@ -54,6 +55,12 @@ runs_as Framed.NoBody = refl
 runs_as (Framed.Length n) = refl
 runs_as Framed.Chunked = refl
 runs_as Framed.UntilClose = refl
+
+nothing_as : (framing : Framing) → has_nothing framing ≡ is_nothing (decoder_for limits framing)
+nothing_as Framed.NoBody = refl
+nothing_as (Framed.Length n) = refl
+nothing_as Framed.Chunked = refl
+nothing_as Framed.UntilClose = refl
 
 never_again : (a b on : Bool) → on ≡ true → (a && (b && not on)) ≡ false
 never_again false b on is = refl
@@ -182,7 +189,7 @@ module _ (begun client : Client) (waits : IsWaiting begun) (received left : List
 
     -- a body that was left unread
     pub unread_answer : (second : List ℕ) (remaining : Option (List ℕ)) (limit : ℕ) (error : AnswerError)
-        → HasNoEnd (decoder_for limits h.framing) (left ++ second) remaining limit error
+        → LeavesBody (decoder_for limits h.framing) (left ++ second) remaining limit error
         → AnswersBy begun (received ++ second) remaining limit found.status found.retry_after (Err error) false
     unread_answer second remaining limit error none = record {
       head = h.head;
@@ -193,5 +200,9 @@ module _ (begun client : Client) (waits : IsWaiting begun) (received left : List
       answers = answer;
       status_is = h.status;
       retry_after_is = h.retry_after;
-      says = (left_by h.framing (left ++ second) remaining limit error none, refl);
+      says = (
+        left_by h.framing (left ++ second) remaining limit error none.0,
+        nothing_as h.framing ∙ none.1,
+        refl,
+      );
     }

@@ -1,20 +1,23 @@
 -- The body that was read, one piece more at a time.
 use Rattle.std.proofs.Common.{◌≡◌, ℕ, ◌+◌, ◌<◌, ◌≤◌, ◌∙◌, Bool, true, false, cond, ◌&&◌, List, [], ◌∷◌, ◌++◌}
-use Rattle.std.proofs.Common.{length, drop}
-use Rattle.std.proofs.Common.{Ok, refl, sym, ap, subst, append_assoc, append-nil, arith, length-append}
+use Rattle.std.proofs.Common.{length, drop, ◌≢◌}
+use Rattle.std.proofs.Common.{Ok, refl, sym, ap, subst, append_assoc, append-nil, arith, length-append, length-drop, length-take-le}
 use Rattle.std.specs.Prelude.{Option}
 use Rattle.std.specs.Io.KnownBytes.{IsAtEnd}
+use Rattle.std.proofs.lemmas.Bool.{eqb-true}
 use Rattle.httparse.specs.Spans.{span_bytes}
+use Rattle.httparse.specs.declared.spans.Span.{Span}
 use Rattle.httparse.specs.declared.spans.HeaderSpan.{HeaderSpan}
 use Rattle.httparse.specs.declared.spans.ResponseSpans.{ResponseSpans}
 use Rattle.http1.specs.Body.{Body, body_of}
-use Rattle.http1.specs.Client.{ReadsAt, after_piece, at_eof, client_eof, closed_client, cycle, is_written}
+use Rattle.http1.specs.Client.{ClientReads, ReadsAt, after_piece, at_eof, client_eof, closed_client, cycle, is_written}
 use Rattle.http1.specs.Client as http
-use Rattle.http1.specs.Conn.{awaits_head}
+use Rattle.http1.specs.Conn.{ReadsPiece, awaits_head}
 use Rattle.http1.specs.Decoder.{Completes, Continues, Ends, Runs, with_front}
 use Rattle.http1.specs.declared.client.Client.{Client}
 use Rattle.http1.specs.declared.conn.Event.{Event}
 use Rattle.http1.specs.declared.conn.Event.TheVariants.{NeedMore, Data, End, Closed}
+use Rattle.http1.specs.declared.conn.Progress.{Progress}
 use Rattle.http1.specs.declared.conn.Reading.{Reading}
 use Rattle.http1.specs.declared.conn.Reading.TheVariants as Reads
 use Rattle.http1.specs.declared.decode.Decoder.{Decoder}
@@ -22,8 +25,8 @@ use Rattle.http1.specs.declared.decode.Decoder.TheVariants.{Length, Chunked, Unt
 use Rattle.otel_http_post.specs.declared.body.BodyStep.TheVariants as Body_step
 use Rattle.otel_http_post.specs.declared.error.AnswerError.{AnswerError}
 use Rattle.otel_http_post.specs.declared.error.AnswerError.TheVariants as errors
-use Rattle.otel_http_post.specs.Following.{HasBody, HasKept, HasNoEnd, IsInBody, IsOfStream}
-use Rattle.otel_http_post.specs.Following.{RefusesPiece, TakesEvent, TakesPiece, runs_on}
+use Rattle.otel_http_post.specs.Following.{HasBody, HasKept, HasNoEnd, IsInBody, IsOfStream, LeavesBody, RefusesKeeping}
+use Rattle.otel_http_post.specs.Following.{RefusesPiece, TakesEvent, TakesPiece, is_nothing, runs_on}
 
 -- nothing of a body was read
 pub kept_nothing : (c : Client) (first : Decoder) (input bytes : List ℕ) → bytes ≡ [] → IsInBody c first
@@ -105,6 +108,105 @@ module _ (begun : Client) (first : Decoder) (received : List ℕ) (client new : 
       goes_on found.1.0 found.0 s.end (span_bytes left s) found.1.4 found.1.1 found.2
       (takes.left_is ∙ ap (λ n. drop n left) found.1.2) says
   kept_piece (spans, event, takes, says) = absurd says
+
+-- a span that is not empty
+pub span_some : (input : List ℕ) (s : Span) → s.start < s.end → s.end ≤ length input
+    → 0 < length (span_bytes input s)
+span_some input s some within = grind (arith, length-take-le, length-drop)
+
+-- what cannot be true is false
+pub not_true : (b : Bool) → (b ≡ true → ⊥) → b ≡ false
+not_true true never = absurd (never refl)
+not_true false _ = refl
+
+-- a piece that is not kept is of a body that is too large, or there was no memory for it
+pub piece_refused : (d next : Decoder) (input bytes piece : List ℕ) (len limit : ℕ) (error : AnswerError)
+    → Continues d input next len piece → 0 < length piece → RefusesKeeping limit bytes piece error
+    → RefusesPiece d input bytes limit error
+piece_refused d next input bytes piece len limit (errors.Unreadable e) h some none = absurd none
+piece_refused d next input bytes piece len limit errors.RequestTimeout h some none = none
+piece_refused d next input bytes piece len limit errors.TooLarge h some over = λ more whole rest e.
+    let inner = h.forth more whole rest e in
+    let longer : limit < length (bytes ++ (piece ++ inner.0.bytes)) = grind (arith, length-append) in
+    subst (λ (b : Body). limit < length (bytes ++ b.bytes)) (sym inner.1) longer
+piece_refused d next input bytes piece len limit errors.Ended h some none = none
+piece_refused d next input bytes piece len limit (errors.Stream kind) h some none = none
+piece_refused d next input bytes piece len limit errors.OutOfMemory h some none = λ more whole rest e.
+    let inner = h.forth more whole rest e in
+    let longer : 0 < length (piece ++ inner.0.bytes) = grind (arith, length-append) in
+    subst (λ (b : Body). 0 < length b.bytes) (sym inner.1) longer
+
+-- what a step does not keep is of a piece
+pub keep_refused : (old new : Client) (d : Decoder) (input bytes : List ℕ) (spans : List HeaderSpan)
+    (read : Progress ResponseSpans) (s : Span) (limit : ℕ) (error : AnswerError)
+    → old.reading ≡ Reads.Body d → ClientReads old input spans new read → read.event ≡ Data s
+    → RefusesKeeping limit bytes (span_bytes input s) error → RefusesPiece d input bytes limit error
+keep_refused old new d input bytes spans read s limit error reading reads is refuses =
+    let at = subst (λ (r : Reading). ReadsAt r old input spans new read) reading reads in
+    let piece = subst (λ (e : Event ResponseSpans). ReadsPiece d input spans at.0 read.consumed e) is at.1 in
+    piece_refused d piece.0 input bytes (span_bytes input s) s.end limit error piece.4
+    (span_some input s piece.3 piece.4.within) refuses
+
+-- a body of nothing is there
+nothing_completes : (d : Decoder) → is_nothing d ≡ true → (stream : List ℕ)
+    → Completes d stream (body_of [] []) stream
+nothing_completes (Length left) is stream = (sym (eqb-true _ _ is), refl, refl)
+nothing_completes (Chunked chunks max_len) is stream = cc
+nothing_completes UntilClose is stream = cc
+
+nothing_stops : (d : Decoder) → is_nothing d ≡ true → runs_on d ≡ false
+nothing_stops (Length left) is = refl
+nothing_stops (Chunked chunks max_len) is = refl
+nothing_stops UntilClose is = cc
+
+module _ (begun : Client) (first : Decoder) (received : List ℕ) (client new : Client) (left after bytes kept : List ℕ)
+    (h : HasKept begun first received client left bytes) (nothing : is_nothing first ≡ true) where
+  -- so nothing of it is left
+  rest_of : (more : List ℕ) → (body : Body) × (body_of [] [] ≡ with_front bytes body)
+      × Completes h.decoder (left ++ more) body (received ++ more)
+  rest_of more = h.forth more (body_of [] []) (received ++ more) (nothing_completes first nothing (received ++ more))
+
+  rest_bytes : (more : List ℕ) → length (bytes ++ (rest_of more).0.bytes) ≡ 0
+  rest_bytes more = ap (λ (b : Body). length b.bytes) (sym (rest_of more).1)
+
+  -- no more is needed
+  pub nothing_needed : TakesPiece client left bytes new after kept Body_step.More → ⊥
+  nothing_needed (spans, NeedMore, takes, says) =
+      let found = reads_at begun first received client new left after bytes kept h spans NeedMore takes in
+      let stops : runs_on h.decoder ≡ false = h.runs ∙ nothing_stops first nothing in
+      let bounded : h.decoder ≢ UntilClose = λ is. let on = sym stops ∙ ap runs_on is in cc in
+      found.1.2.unfinished bounded (rest_of []).0 (received ++ []) (subst (λ (bs : List ℕ).
+      Completes h.decoder bs (rest_of []).0 (received ++ [])) (append-nil left) (rest_of []).2)
+  nothing_needed (spans, event, takes, says) = absurd says
+
+  -- no piece of it comes
+  pub nothing_comes : TakesPiece client left bytes new after kept Body_step.Kept → ⊥
+  nothing_comes (spans, Data s, takes, says) =
+      let found = reads_at begun first received client new left after bytes kept h spans (Data s) takes in
+      let inner = found.1.4.forth [] (rest_of []).0 (received ++ []) (rest_of []).2 in
+      let some : 0 < length (span_bytes left s) = span_some left s found.1.3 found.1.4.within in
+      let none : length (bytes ++ (span_bytes left s ++ inner.0.bytes)) ≡ 0 =
+      ap (λ (b : Body). length (bytes ++ b.bytes)) (sym inner.1) ∙ rest_bytes [] in
+      grind (arith, length-append)
+  nothing_comes (spans, event, takes, says) = absurd says
+
+  -- nothing is wrong with it
+  pub nothing_refused : (limit : ℕ) (error : AnswerError) → RefusesPiece h.decoder left bytes limit error → ⊥
+  nothing_refused limit (errors.Unreadable e) none =
+      let over = none [] (rest_of []).0 (received ++ []) (rest_of []).2 in
+      let trailers : 0 ≡ length (rest_of []).0.trailers = ap (λ (b : Body). length b.trailers) (rest_of []).1 in
+      absurd (omega arith)
+  nothing_refused limit errors.RequestTimeout none = none
+  nothing_refused limit errors.TooLarge none =
+      let over = none [] (rest_of []).0 (received ++ []) (rest_of []).2 in
+      let bytes = rest_bytes [] in
+      absurd (omega arith)
+  nothing_refused limit errors.Ended none = none
+  nothing_refused limit (errors.Stream kind) none = none
+  nothing_refused limit errors.OutOfMemory none =
+      let some = none [] (rest_of []).0 (received ++ []) (rest_of []).2 in
+      let bytes = rest_bytes [] in
+      grind (arith, length-append)
 
 -- a body that runs until the other side closes has no other end
 ends_early : (d : Decoder) (input : List ℕ) (spans : List HeaderSpan) (len count : ℕ) → Ends d input spans len count
@@ -194,10 +296,13 @@ module _ (begun : Client) (first : Decoder) (begins : IsInBody begun first) (rec
   pub kept_refused : (client : Client) (left bytes : List ℕ) (error : AnswerError)
       → (h : HasKept begun first received client left bytes)
       → ((d : Decoder) → client.reading ≡ Reads.Body d → RefusesPiece d left bytes limit error)
-      → HasNoEnd first received remaining limit error
+      → LeavesBody first received remaining limit error
   kept_refused client left bytes error h refuses =
-      let at : RefusesPiece h.decoder left bytes limit error = refuses h.decoder (ap http.reading h.client_is) in
-      by_error error at
+      let at : RefusesPiece h.decoder left bytes limit error = refuses h.decoder (ap http.reading h.client_is) in (
+        by_error error at,
+        not_true (is_nothing first) (λ nothing. nothing_refused begun first received client client left left bytes
+            bytes h nothing limit error at),
+      )
     where
       by_error : (error : AnswerError) → RefusesPiece h.decoder left bytes limit error
           → HasNoEnd first received remaining limit error
@@ -209,8 +314,8 @@ module _ (begun : Client) (first : Decoder) (begins : IsInBody begun first) (rec
           let inner = h.forth more whole rest e in
           subst (λ (b : Body). limit < length b.bytes) (sym inner.1) (none more inner.0 rest inner.2)
       by_error errors.Ended none = absurd none
-      by_error (errors.Stream kind) none = none
-      by_error errors.OutOfMemory none = none
+      by_error (errors.Stream kind) none = absurd none
+      by_error errors.OutOfMemory none = tt
 
   -- no more came
   pub stream_ends : (error : AnswerError) → IsOfStream error → HasNoEnd first received remaining limit error

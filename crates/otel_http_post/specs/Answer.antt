@@ -1,5 +1,5 @@
 -- What an answer says of the bytes that were received, by the grammar of HTTP/1.1 (the kit's http1, specs/Message).
-use Rattle.std.specs.Prelude.{◌≡◌, ◌⊎◌, ℕ, ◌<◌, ◌≤◌, ◌==◌, Bool, false, not, ◌&&◌, List, ◌++◌, length, map, All}
+use Rattle.std.specs.Prelude.{◌≡◌, ◌⊎◌, ℕ, ◌<◌, ◌≤◌, ◌==◌, Bool, true, false, not, ◌&&◌, List, ◌++◌, length, map, All}
 use Rattle.std.specs.Prelude.{Option, Some, None, Result, Ok, Err, IsTrue, if◌then◌else◌}
 use Rattle.std.specs.Io.KnownBytes.{IsAtEnd}
 use Rattle.httparse.specs.Grammar.{ResponseHead, status_code}
@@ -90,19 +90,26 @@ IsLeft framing after left limit errors.Ended = IsAtEnd left
 IsLeft framing after left limit (errors.Stream kind) = Unit {0}
 IsLeft framing after left limit errors.OutOfMemory = Unit {0}
 
+-- the head says that there is nothing of a body
+abbrev pub has_nothing : Framing → Bool
+has_nothing Framed.NoBody = true
+has_nothing (Framed.Length len) = len == 0
+has_nothing Framed.Chunked = false
+has_nothing Framed.UntilClose = false
+
 -- both heads keep the connection, the body did not run until it closed, and nothing follows
 abbrev pub keeps_open : Client → ResponseHead → Framing → List ℕ → Bool
 keeps_open client head framing rest =
     (client.keep_alive && (keeps_alive head.minor (message.known_of head.fields) && not (is_until_close framing)))
     && (length rest == 0)
 
--- what is said of the body, and whether another request can be sent
+-- what is said of the body, and whether another request can be sent: one of nothing is not left
 abbrev pub SaysBody : Client → ResponseHead → Framing → List ℕ → Option (List ℕ) → ℕ → Result (List ℕ) AnswerError
     → Bool → Type 0
 SaysBody client head framing after left limit (Ok bytes) keeps =
     (rest : List ℕ) × IsWhole framing after left limit bytes rest × (keeps ≡ keeps_open client head framing rest)
 SaysBody client head framing after left limit (Err error) keeps =
-    IsLeft framing after left limit error × (keeps ≡ false)
+    IsLeft framing after left limit error × (has_nothing framing ≡ false) × (keeps ≡ false)
 
 -- what was received begins with responses that only inform, and then with the head of the answer, which stands whatever
 -- becomes of the body that follows it

@@ -1,5 +1,5 @@
 -- Reading an answer, a call of http1's client after the other.
-use Rattle.std.specs.Prelude.{◌≡◌, ℕ, ◌<◌, ◌≤◌, Bool, true, false, List, ◌++◌, length, map, drop, Option, IsFalse}
+use Rattle.std.specs.Prelude.{◌≡◌, ℕ, ◌<◌, ◌≤◌, ◌==◌, Bool, true, false, List, ◌++◌, length, map, drop, Option, IsFalse}
 use Rattle.std.specs.Io.KnownBytes.{IsAtEnd}
 use Rattle.httparse.specs.Grammar.{ResponseHead, status_code}
 use Rattle.httparse.specs.Spans.{name_and_value, span_bytes}
@@ -107,8 +107,10 @@ RefusesPiece decoder input kept limit errors.TooLarge =
     (more : List ℕ) (body : Body) (rest : List ℕ) → Completes decoder (input ++ more) body rest
     → limit < length (kept ++ body.bytes)
 RefusesPiece decoder input kept limit errors.Ended = ⊥
-RefusesPiece decoder input kept limit (errors.Stream kind) = Unit {0}
-RefusesPiece decoder input kept limit errors.OutOfMemory = Unit {0}
+RefusesPiece decoder input kept limit (errors.Stream kind) = ⊥
+RefusesPiece decoder input kept limit errors.OutOfMemory =
+    (more : List ℕ) (body : Body) (rest : List ℕ) → Completes decoder (input ++ more) body rest
+    → 0 < length body.bytes
 
 -- whatever more comes, what was received begins with responses that only inform, and then comes what is left
 pub record HasInformed (begun : Client) (received : List ℕ) (client : Client) (left : List ℕ) : Type 0 where
@@ -143,6 +145,12 @@ abbrev pub runs_on : Decoder → Bool
 runs_on (Decoding.Length left) = false
 runs_on (Decoding.Chunked chunks max_len) = false
 runs_on Decoding.UntilClose = true
+
+-- there is nothing of a body
+abbrev pub is_nothing : Decoder → Bool
+is_nothing (Decoding.Length left) = left == 0
+is_nothing (Decoding.Chunked chunks max_len) = false
+is_nothing Decoding.UntilClose = false
 
 -- a client that has read the head of an answer, and waits for its body
 pub record IsInBody (client : Client) (decoder : Decoder) : Type 0 where
@@ -181,3 +189,8 @@ HasNoEnd first received left limit errors.TooLarge =
 HasNoEnd first received left limit errors.Ended = IsAtEnd left
 HasNoEnd first received left limit (errors.Stream kind) = Unit {0}
 HasNoEnd first received left limit errors.OutOfMemory = Unit {0}
+
+-- there is some of it
+abbrev pub LeavesBody : Decoder → List ℕ → Option (List ℕ) → ℕ → AnswerError → Type 0
+LeavesBody first received left limit error =
+    HasNoEnd first received left limit error × (is_nothing first ≡ false)

@@ -6,7 +6,7 @@ ghost use Rattle.http1.specs.Client.{closed_client};
 ghost use Rattle.http1.specs.declared.conn.Reading.TheVariants as Reads;
 ghost use Rattle.http1.specs.declared.decode.Decoder.{Decoder};
 ghost use Rattle.http1.specs.declared.decode.Decoder.TheVariants.{UntilClose};
-ghost use Rattle.otel_http_post.specs.Following.{HasBody, HasNoEnd, IsInBody, RefusesKeeping, RefusesPiece, TakesPiece};
+ghost use Rattle.otel_http_post.specs.Following.{HasBody, IsInBody, LeavesBody, RefusesKeeping, RefusesPiece, TakesPiece};
 
 use crate::error::AnswerError;
 use crate::head::MAX_HEADERS;
@@ -80,7 +80,7 @@ pub(crate) fn read_body<R: Read>(
         × ((first : Decoder) → IsInBody inbox.old.client first → MatchResult result
         (λ body. HasBody inbox.old.client first (inbox.old.input.items ++ received) (R.remaining reader.new) limit
         body.items inbox.new.client inbox.new.input.items)
-        (HasNoEnd first (inbox.old.input.items ++ received) (R.remaining reader.new) limit)) }
+        (LeavesBody first (inbox.old.input.items ++ received) (R.remaining reader.new) limit)) }
     ensures end { result ≡ Err AnswerError.Ended → IsAtEnd (R.remaining reader.new) }
 {
     let mut body = Vec::new(alloc);
