@@ -1,44 +1,78 @@
 -- Numbers and ids that are written are read back.
 use Rattle.std.proofs.Common.{◌≡◌, ◌≢◌, ◌+◌, ◌-◌, ◌*◌, ◌/◌, ◌%◌, ◌^◌, ◌<◌, ◌&&◌, ℕ, ℤ, pos, negsuc, zero, suc}
-use Rattle.std.proofs.Common.{Bool, true, false, cond, ltb, leb, eqb, List, [], ◌∷◌, ◌++◌, length, get_or}
-use Rattle.std.proofs.Common.{Option, Some, None, option_and_then, FitsSigned, refl, ap, ◌∙◌, arith}
+use Rattle.std.proofs.Common.{Bool, true, false, cond, ltb, eqb, List, [], ◌∷◌, ◌++◌, length, get_or, drop, take}
+use Rattle.std.proofs.Common.{Option, Some, None, option_and_then, FitsSigned, refl, ap, sym, ◌∙◌, arith}
+use Rattle.std.proofs.Common.{append-nil, eq-eqb}
 use Rattle.std.proofs.Math.Nat.{pow-suc}
 use Rattle.std.proofs.lemmas.Bool.{lt-ltb, le-leb}
 use Rattle.std.proofs.lemmas.Bool.Decides.{nat_tests}
-use Rattle.std.proofs.lemmas.Fmt.{decimal_is_IsNumeral, decimal_nonempty, length-decimal-le}
+use Rattle.std.proofs.lemmas.Fmt.{decimal_is_IsNumeral, decimal_nonempty}
+use Rattle.std.proofs.lemmas.Float.Parse.{scan_numeral-text_of}
+use Rattle.std.proofs.lemmas.List.{take_all, drop_all}
 use Rattle.std.proofs.lemmas.Str.Parse.{digit_at}
 use Rattle.std.specs.Char.{digit_value}
 use Rattle.std.specs.Fmt.{decimal, signed_decimal}
 use Rattle.std.specs.Int.{w64}
-use Rattle.std.specs.Str.Parse.{AllDigits, digits_value_after}
+use Rattle.std.specs.Str.Parse.{AllDigits, digits_value}
+use Rattle.fast_float.specs.Text.{Parts, has_digits, scan}
 use Rattle.opentelemetry.specs.Hex.{hex_digit, hex_text}
 use Rattle.opentelemetry.proofs.HexRead.{hex_text_IsHexText}
-use Rattle.otel_otlp_read.specs.Numbers.{digits_after, id_number, if_wide, is_integer, is_within, parent_number, whole_number}
+use Rattle.otel_otlp_read.specs.Numbers.{digits_after, id_number, is_integer, is_within, parent_number, whole_in}
+use Rattle.otel_otlp_read.specs.Numbers.{whole_number}
 
--- digits alone spell their number
-digits_read : (radix n : ℕ) (bs : List ℕ) → AllDigits radix bs
-    → digits_after radix n bs ≡ Some (digits_value_after radix n bs)
-digits_read radix n [] h = refl
-digits_read radix n (b ∷ bs) h =
-    ap (λ t. cond t (digits_after radix (n * radix + digit_value b) bs) None) (lt-ltb (digit_value b) radix h.0)
-    ∙ digits_read radix (n * radix + digit_value b) bs h.1
+-- digits alone, as the parts of a numeral
+abbrev digits_alone : List ℕ → Parts
+digits_alone ds = record {
+  whole = ds;
+  point = false;
+  fraction = [];
+  exponent_negative = false;
+  exponent = [];
+  len = length ds;
+}
 
-decimal_read : (n : ℕ) → n < 2 ^ 64 → digits_after 10 0 (decimal n) ≡ Some n
-decimal_read n small =
-    let is = decimal_is_IsNumeral n small in
-    digits_read 10 0 (decimal n) is.0.1 ∙ ap Some is.1
+scan_digits : (ds : List ℕ) → AllDigits 10 ds → scan ds ≡ digits_alone ds
+scan_digits ds h =
+    ap scan (sym (append-nil ds))
+    ∙ scan_numeral-text_of (digits_alone ds) (record {
+      whole_digits = h;
+      fraction_digits = tt;
+      exponent_digits = tt;
+      no_point = λ e. refl;
+      no_exponent = λ e. refl;
+      len_is = ap length (sym (append-nil ds));
+    })
+
+-- the whole number that digits alone write
+whole_alone : (ds : List ℕ) (n : ℕ) → digits_value 10 ds ≡ n → n < 2 ^ 64 → whole_in (digits_alone ds) ≡ Some n
+whole_alone ds n is small =
+    let all = append-nil ds in
+    let front : take (length ds + 0) (ds ++ []) ≡ ds =
+    ap (take (length ds + 0)) all ∙ take_all (length ds + 0) ds (omega arith) in
+    let back : drop (length ds + 0) (ds ++ []) ≡ [] =
+    ap (drop (length ds + 0)) all ∙ drop_all (length ds + 0) ds (omega arith) in
+    let power : length ds + 0 - length (ds ++ []) ≡ 0 = ap (λ xs. length ds + 0 - length xs) all ∙ omega arith in
+    let wide : ℕ → Option ℕ = λ m. cond (ltb m (2 ^ 64)) (Some m) None in
+    ap (λ xs. cond (eqb (digits_value 10 xs) 0)
+    (wide (digits_value 10 (take (length ds + 0) (ds ++ [])) * 10 ^ (length ds + 0 - length (ds ++ [])))) None) back
+    ∙ ap (λ xs. wide (digits_value 10 xs * 10 ^ (length ds + 0 - length (ds ++ [])))) front
+    ∙ ap (λ k. wide (digits_value 10 ds * 10 ^ k)) power
+    ∙ ap (λ m. wide (m * 1)) is
+    ∙ ap wide (omega arith)
+    ∙ ap (λ t. cond t (Some n) None) (lt-ltb n (2 ^ 64) small)
 
 -- the decimal of a number of 64 bits is that number
 pub decimal_whole : (n : ℕ) → n < 2 ^ 64 → whole_number (decimal n) ≡ Some n
 unfolding whole_number
 decimal_whole n small =
-    let some : ltb 0 (length (decimal n)) ≡ true = lt-ltb 0 (length (decimal n)) (decimal_nonempty n small) in
-    let few : leb (length (decimal n)) 20 ≡ true =
-    le-leb (length (decimal n)) 20 (length-decimal-le 20 n (omega arith) (omega arith) small) in
-    let wide : if_wide n ≡ Some n = ap (λ t. cond t (Some n) None) (lt-ltb n (2 ^ 64) small) in
-    ap (λ t. cond (t && leb (length (decimal n)) 20) (option_and_then if_wide (digits_after 10 0 (decimal n))) None) some
-    ∙ ap (λ t. cond t (option_and_then if_wide (digits_after 10 0 (decimal n))) None) few
-    ∙ ap (option_and_then if_wide) (decimal_read n small) ∙ wide
+    let is = decimal_is_IsNumeral n small in
+    let long = length (decimal n) in
+    let same : eqb long long ≡ true = eq-eqb long long refl in
+    let some : ltb 0 (long + 0) ≡ true = lt-ltb 0 (long + 0) (omega (arith, decimal_nonempty n small)) in
+    ap (λ p. cond (has_digits p && (eqb p.len long)) (whole_in p) None) (scan_digits (decimal n) is.0.1)
+    ∙ ap (λ t. cond (t && eqb long long) (whole_in (digits_alone (decimal n))) None) some
+    ∙ ap (λ t. cond t (whole_in (digits_alone (decimal n))) None) same
+    ∙ whole_alone (decimal n) n is.1 small
 
 -- bytes that do not begin with a minus
 plain_integer : (bs : List ℕ) → 0 < length bs → get_or bs 0 0 ≢ 45

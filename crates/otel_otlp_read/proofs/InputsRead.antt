@@ -1,7 +1,7 @@
 -- The text of a batch, and the lines of batches, are read back.
 use Rattle.std.specs.Prelude.{◌&&◌, is_some}
 use Rattle.std.proofs.Common.{◌≡◌, ◌+◌, ◌==◌, ℕ, true, false, cond, List, [], ◌∷◌, ◌++◌, map, Some, Ok}
-use Rattle.std.proofs.Common.{refl, sym, ap, ◌∙◌}
+use Rattle.std.proofs.Common.{refl, sym, ap, ◌∙◌, flat_map}
 use Rattle.std.proofs.lemmas.Str.{is_utf8-from_IsUtf8}
 use Rattle.std.proofs.lemmas.List.{map-append}
 use Rattle.std.proofs.lemmas.List.Concat.{flat_map-cons}
@@ -13,14 +13,16 @@ use Rattle.otel_resource.specs.Resource.{PlainResource}
 use Rattle.otel_export.specs.PlainSpanData.{PlainSpanData, spans_in}
 use Rattle.otel_otlp.specs.Fits.{SpanFits}
 use Rattle.otel_otlp.specs.Otlp.{otlp_lines, otlp_text}
-use Rattle.otel_shown.specs.Shown.{PlainShownSpan, shown_span}
-use Rattle.otel_otlp_read.specs.Inputs.{PlainReadText, and_read, begins_with_json, is_blank, is_json, of_document, of_line}
-use Rattle.otel_otlp_read.specs.Inputs.{read_document, read_input, read_lines, text_lines}
-use Rattle.otel_otlp_read.specs.Requests.{read_request, service_of}
+use Rattle.otel_shown.specs.Shown.{shown_span}
+use Rattle.otel_otlp_read.specs.Inputs.{PlainReadText, and_read, begins_with_json, is_blank, is_json, left_faults}
+use Rattle.otel_otlp_read.specs.Inputs.{nothing_read, of_document, of_line, one_if_none, read_document, read_input}
+use Rattle.otel_otlp_read.specs.Inputs.{read_lines, spanless_in, text_lines}
+use Rattle.otel_otlp_read.specs.Requests.{read_request, service_of, whole_span}
+use Rattle.otel_otlp_read.specs.SpanParts.{PlainReadSpan}
 use Rattle.otel_otlp_read.proofs.Documents.{read_json}
 
 -- a text that is UTF-8 and JSON
-pub document_back : (text : List ℕ) (j : Json) (spans : List PlainShownSpan) → IsUtf8 text → document text ≡ Some j
+pub document_back : (text : List ℕ) (j : Json) (spans : List PlainReadSpan) → IsUtf8 text → document text ≡ Some j
     → read_request j ≡ Ok spans → read_document text ≡ Ok spans
 document_back text j spans utf8 is e = read_json text j utf8 is ∙ e
 
@@ -32,11 +34,44 @@ not_blank : (resource : PlainResource) (batch : List PlainSpanData) → is_blank
 unfolding print_from
 not_blank resource batch = refl
 
+-- what is read of a batch: its spans as they are shown, and no attribute is left out
+abbrev pub read_of : List ℕ → List PlainSpanData → PlainReadText
+read_of service batch = record {
+  spans = map (shown_span service) batch;
+  faults = [];
+  spanless = one_if_none batch;
+}
+
+spans_whole : (service : List ℕ) (batch : List PlainSpanData)
+    → map (λ read. read.span) (map (whole_span service) batch) ≡ map (shown_span service) batch
+spans_whole service [] = refl
+spans_whole service (span ∷ batch) = ap (λ spans. shown_span service span ∷ spans) (spans_whole service batch)
+
+none_left : (line : ℕ) (service : List ℕ) (batch : List PlainSpanData)
+    → flat_map (left_faults line) (map (whole_span service) batch) ≡ []
+none_left line service [] = refl
+none_left line service (span ∷ batch) =
+    flat_map-cons (left_faults line) (whole_span service span) (map (whole_span service) batch)
+    ∙ none_left line service batch
+
+none_whole : (service : List ℕ) (batch : List PlainSpanData)
+    → one_if_none (map (whole_span service) batch) ≡ one_if_none batch
+none_whole service [] = refl
+none_whole service (span ∷ batch) = refl
+
+whole_document : (line : ℕ) (service : List ℕ) (batch : List PlainSpanData)
+    → of_document line (Ok (map (whole_span service) batch)) ≡ read_of service batch
+whole_document line service batch = λ i. record {
+  spans = spans_whole service batch i;
+  faults = none_left line service batch i;
+  spanless = none_whole service batch i;
+}
+
 module _ (resource : PlainResource) where
   -- the text of a batch is JSON, and read as its spans
   pub record Reads (batch : List PlainSpanData) : Type 0 where
     pub json : is_json (otlp_text resource batch) ≡ true
-    pub spans : read_document (otlp_text resource batch) ≡ Ok (map (shown_span (service_of resource)) batch)
+    pub spans : read_document (otlp_text resource batch) ≡ Ok (map (whole_span (service_of resource)) batch)
 
   -- each batch is read, where each that fits is
   pub each_reads : (batches : List (List PlainSpanData))
@@ -49,14 +84,19 @@ module _ (resource : PlainResource) where
   -- a line of a batch
   line_back : (number : ℕ) (batch : List PlainSpanData) → Reads batch
       → of_line number (otlp_text resource batch)
-      ≡ record { spans = map (shown_span (service_of resource)) batch; faults = [] }
+      ≡ read_of (service_of resource) batch
   line_back number batch h =
-      ap (λ t. cond t (record { spans = []; faults = [] }) (of_document number (read_document (otlp_text resource batch))))
+      ap (λ t. cond t nothing_read (of_document number (read_document (otlp_text resource batch))))
       (not_blank resource batch)
       ∙ ap (of_document number) h.spans
+      ∙ whole_document number (service_of resource) batch
 
   abbrev pub all_of : List (List PlainSpanData) → PlainReadText
-  all_of batches = record { spans = map (shown_span (service_of resource)) (spans_in batches); faults = [] }
+  all_of batches = record {
+    spans = map (shown_span (service_of resource)) (spans_in batches);
+    faults = [];
+    spanless = spanless_in batches;
+  }
 
   lines_back : (number : ℕ) (batches : List (List PlainSpanData)) → AllByRecursion Reads batches
       → read_lines number (map (otlp_text resource) batches ++ [] ∷ []) ≡ all_of batches
@@ -65,9 +105,9 @@ module _ (resource : PlainResource) where
   lines_back number (batch ∷ batches) h =
       ap (λ first. and_read first (read_lines (number + 1) (map (otlp_text resource) batches ++ [] ∷ [])))
       (line_back number batch h.0)
-      ∙ ap (λ rest. and_read (record { spans = map (shown_span (service_of resource)) batch; faults = [] }) rest)
+      ∙ ap (and_read (read_of (service_of resource) batch))
       (lines_back (number + 1) batches h.1)
-      ∙ ap (λ spans. record { spans = spans; faults = [] })
+      ∙ ap (λ spans. record { spans = spans; faults = []; spanless = spanless_in (batch ∷ batches) })
       (sym (map-append (shown_span (service_of resource)) batch (spans_in batches))
       ∙ ap (map (shown_span (service_of resource))) (sym (flat_map-cons (λ spans. spans) batch batches)))
 

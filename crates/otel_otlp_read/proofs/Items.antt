@@ -1,9 +1,18 @@
--- The items of an array, as a list.
-use Rattle.std.proofs.Common.{◌≡◌, List, [], ◌∷◌, refl, ap}
-use Rattle.json.specs.Json.{Json}
-use Rattle.json.specs.Value.{items_of}
+-- The items of an array, as a list, and whether an object has members.
+use Rattle.std.proofs.Common.{◌≡◌, ℕ, List, [], ◌∷◌, eqb, length, refl, ap, arith}
+use Rattle.std.specs.Borrow.{Bor}
+use borrow.Author.Tests.{ne_eqb}
+use Rattle.json.specs.Json.{Json, object}
+use Rattle.json.specs.Value.{items_of, members_view}
+use Rattle.json.specs.declared.value.Value.{Value}
 use Rattle.otel_otlp_read.specs.Members.{listed}
+use Rattle.otel_otlp_read.specs.Requests.{is_empty_object}
 
 pub listed_view : (js : List Json) → listed (items_of js) ≡ js
 listed_view [] = refl
 listed_view (j ∷ js) = ap (λ rest. j ∷ rest) (listed_view js)
+
+pub empty_view : {A : Type 0} (ms : List (Bor (List ℕ) × Value A))
+    → eqb (length ms) 0 ≡ is_empty_object (object (members_view ms))
+empty_view [] = refl
+empty_view (m ∷ ms) = ne_eqb (length (m ∷ ms)) 0 (λ e. omega arith)

@@ -1,3 +1,4 @@
+pub mod AttributeReading
 pub mod Depths
 pub mod Digits
 pub mod DigitsRead

@@ -1,9 +1,13 @@
 -- Reading line by line, as a loop does.
 use Rattle.std.proofs.Common.{◌≡◌, ◌+◌, ◌<◌, ◌≤◌, ◌⊎◌, ℕ, Bool, true, false, cond, List, [], ◌∷◌, Option, None, Some}
-use Rattle.std.proofs.Common.{IfSome, length, refl, sym, ap, ◌∙◌, arith, inl, inr, append_assoc, append-nil}
+use Rattle.std.proofs.Common.{Result, Ok, Err}
+use Rattle.std.proofs.Common.{IfSome, length, refl, sym, ap, ◌∙◌, arith, inl, inr, add_assoc, add-zero}
+use Rattle.std.proofs.Common.{append_assoc, append-nil}
 use Rattle.std.specs.Borrow.{Bor}
+use Rattle.otel_otlp_read.specs.declared.fault.Fault.{Fault}
+use Rattle.otel_otlp_read.specs.SpanParts.{PlainReadSpan}
 use Rattle.otel_otlp_read.specs.Inputs.{PlainReadText, and_read, begins_with_json, is_blank, is_json, lines_after}
-use Rattle.otel_otlp_read.specs.Inputs.{nothing_read, of_document, of_line, read_document, read_input, read_lines, text_lines}
+use Rattle.otel_otlp_read.specs.Inputs.{nothing_read, of_document, of_line, one_if_none, read_document, read_input, read_lines, text_lines}
 use Rattle.otel_otlp_read.proofs.LeftLines.{left, left_text}
 
 -- the lines that are left, of which this is the first
@@ -28,7 +32,11 @@ begins_none = refl
 
 -- nothing more
 pub and_nothing : (read : PlainReadText) → and_read read nothing_read ≡ read
-and_nothing read = λ i. record { spans = append-nil read.spans i; faults = append-nil read.faults i }
+and_nothing read = λ i. record {
+  spans = append-nil read.spans i;
+  faults = append-nil read.faults i;
+  spanless = add-zero read.spanless i;
+}
 
 pub read_none : (number : ℕ) (read : PlainReadText) → and_read read (read_lines number []) ≡ read
 unfolding read_lines
@@ -45,6 +53,23 @@ pub line_there : (number : ℕ) (line : List ℕ) (read : PlainReadText) → is_
 line_there number line read is =
     ap (λ t. and_read read (cond t nothing_read (of_document number (read_document line)))) is
 
+-- a line has one request at most
+one_small : {A : Type 0} (xs : List A) → one_if_none xs ≤ 1
+one_small [] = omega arith
+one_small (x ∷ xs) = omega arith
+
+document_few : (number : ℕ) (read : Result (List PlainReadSpan) Fault) → (of_document number read).spanless ≤ 1
+document_few number (Ok reads) = one_small reads
+document_few number (Err fault) = omega arith
+
+few_by : (t : Bool) (read : PlainReadText) → read.spanless ≤ 1 → (cond t nothing_read read).spanless ≤ 1
+few_by true read h = omega arith
+few_by false read h = h
+
+pub line_few : (number : ℕ) (line : List ℕ) → (of_line number line).spanless ≤ 1
+line_few number line =
+    few_by (is_blank line) (of_document number (read_document line)) (document_few number (read_document line))
+
 -- one line more
 pub read_step : (number : ℕ) (line : List ℕ) (lines : List (List ℕ)) (read now : PlainReadText)
     → now ≡ and_read read (of_line number line)
@@ -57,6 +82,7 @@ read_step number line lines read now is =
     ∙ λ i. record {
       spans = append_assoc read.spans first.spans others.spans i;
       faults = append_assoc read.faults first.faults others.faults i;
+      spanless = add_assoc read.spanless first.spanless others.spanless i;
     }
 
 -- fewer bytes are left

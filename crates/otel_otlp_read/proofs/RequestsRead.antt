@@ -17,12 +17,11 @@ use Rattle.otel_otlp.specs.OtlpSpan.{span_json}
 use Rattle.otel_otlp.specs.OtlpValues.{pair_json}
 use Rattle.otel_otlp.specs.ScopeRuns.{scope_runs}
 use Rattle.otel_otlp.proofs.RunsFit.{RunFits, batch_runs_fit}
-use Rattle.otel_shown.specs.Shown.{shown_span}
 use Rattle.otel_otlp_read.specs.declared.fault.Fault.{Fault}
 use Rattle.otel_otlp_read.specs.Members.{listed}
 use Rattle.otel_otlp_read.specs.Reading.{◌>>=◌, joined, only}
 use Rattle.otel_otlp_read.specs.Requests.{first_named, is_misnamed, named_service, read_request, resource_spans_in}
-use Rattle.otel_otlp_read.specs.Requests.{scope_spans_in, service_in, service_of, value_member}
+use Rattle.otel_otlp_read.specs.Requests.{is_request, scope_spans_in, service_in, service_of, value_member, whole_span}
 use Rattle.otel_otlp_read.specs.SpanParts.{span_in}
 use Rattle.otel_otlp_read.proofs.SpansRead.{span_back}
 use Rattle.otel_otlp_read.proofs.ValuesRead.{joined_back, listed-items_of, member_back}
@@ -51,28 +50,28 @@ resource_back resource h =
 
 -- the spans of a run
 run_back : (service : List ℕ) (run : List PlainSpanData) → AllByRecursion SpanFits run
-    → scope_spans_in service (run_json run) ≡ Ok (map (shown_span service) run)
+    → scope_spans_in service (run_json run) ≡ Ok (map (whole_span service) run)
 unfolding scope_spans_in
 run_back service run h =
     ap (joined (λ item. only (span_in service item))) (listed-items_of (map span_json run))
-    ∙ joined_back span_json (λ item. only (span_in service item)) (λ s. shown_span service s ∷ []) SpanFits
+    ∙ joined_back span_json (λ item. only (span_in service item)) (λ s. whole_span service s ∷ []) SpanFits
     (λ s k. ap only (span_back s k service)) run h
-    ∙ ap Ok (flat_map_single (shown_span service) run)
+    ∙ ap Ok (flat_map_single (whole_span service) run)
 
 -- shown one by one or run by run
 shown_runs : (service : List ℕ) (runs : List (List PlainSpanData))
-    → flat_map (λ run. map (shown_span service) run) runs ≡ map (shown_span service) (spans_in runs)
+    → flat_map (λ run. map (whole_span service) run) runs ≡ map (whole_span service) (spans_in runs)
 shown_runs service [] = refl
 shown_runs service (run ∷ runs) =
-    flat_map-cons (λ run. map (shown_span service) run) run runs
-    ∙ ap (λ rest. map (shown_span service) run ++ rest) (shown_runs service runs)
-    ∙ sym (map-append (shown_span service) run (spans_in runs))
-    ∙ ap (map (shown_span service)) (sym (flat_map-cons (λ batch. batch) run runs))
+    flat_map-cons (λ run. map (whole_span service) run) run runs
+    ∙ ap (λ rest. map (whole_span service) run ++ rest) (shown_runs service runs)
+    ∙ sym (map-append (whole_span service) run (spans_in runs))
+    ∙ ap (map (whole_span service)) (sym (flat_map-cons (λ batch. batch) run runs))
 
 runs_back : (service : List ℕ) (runs : List (List PlainSpanData)) → AllByRecursion (AllByRecursion SpanFits) runs
-    → joined (scope_spans_in service) (map run_json runs) ≡ Ok (map (shown_span service) (spans_in runs))
+    → joined (scope_spans_in service) (map run_json runs) ≡ Ok (map (whole_span service) (spans_in runs))
 runs_back service runs h =
-    joined_back run_json (scope_spans_in service) (map (shown_span service)) (AllByRecursion SpanFits)
+    joined_back run_json (scope_spans_in service) (map (whole_span service)) (AllByRecursion SpanFits)
     (run_back service) runs h
     ∙ ap Ok (shown_runs service runs)
 
@@ -88,19 +87,19 @@ runs_fit batch h = only_fits (scope_runs batch) (batch_runs_fit batch h)
 -- the spans of a resource
 resource_spans_back : (resource : PlainResource) (batch : List PlainSpanData) → ResourceFits resource
     → spans_in (scope_runs batch) ≡ batch → AllByRecursion (AllByRecursion SpanFits) (scope_runs batch)
-    → resource_spans_in (resource_spans_json resource batch) ≡ Ok (map (shown_span (service_of resource)) batch)
+    → resource_spans_in (resource_spans_json resource batch) ≡ Ok (map (whole_span (service_of resource)) batch)
 unfolding resource_spans_in is_misnamed
 resource_spans_back resource batch fits whole runs_fit =
     ap (λ r. r >>= λ service. joined (scope_spans_in service)
     (listed (items_of (map run_json (scope_runs batch))))) (resource_back resource fits)
     ∙ ap (joined (scope_spans_in (service_of resource))) (listed-items_of (map run_json (scope_runs batch)))
     ∙ runs_back (service_of resource) (scope_runs batch) runs_fit
-    ∙ ap (λ spans. Ok (map (shown_span (service_of resource)) spans)) whole
+    ∙ ap (λ spans. Ok (map (whole_span (service_of resource)) spans)) whole
 
 pub request_back : (resource : PlainResource) (batch : List PlainSpanData) → ResourceFits resource
     → spans_in (scope_runs batch) ≡ batch → AllByRecursion (AllByRecursion SpanFits) (scope_runs batch)
-    → read_request (request resource batch) ≡ Ok (map (shown_span (service_of resource)) batch)
-unfolding read_request
+    → read_request (request resource batch) ≡ Ok (map (whole_span (service_of resource)) batch)
+unfolding read_request is_request
 request_back resource batch fits whole runs_fit =
     ap (λ r. r >>= λ first. Ok (first ++ [])) (resource_spans_back resource batch fits whole runs_fit)
-    ∙ ap Ok (append-nil (map (shown_span (service_of resource)) batch))
+    ∙ ap Ok (append-nil (map (whole_span (service_of resource)) batch))

@@ -1,9 +1,8 @@
 -- A span that is written is read back as it is shown.
-use Rattle.std.proofs.Common.{◌≡◌, ◌<◌, ◌^◌, ℕ, zero, suc, cond, List, [], ◌∷◌, map, codes, Some, Ok}
-use Rattle.std.proofs.Common.{refl, ap, ◌∙◌, arith}
+use Rattle.std.proofs.Common.{◌≡◌, ◌<◌, ◌^◌, ℕ, pos, zero, suc, true, cond, List, [], ◌∷◌, map, codes, Some, Ok}
+use Rattle.std.proofs.Common.{◌+◌, refl, ap, sym, ◌∙◌, arith}
 use borrow.Author.Tests.{ne_eqb}
-use Rattle.std.proofs.lemmas.Fmt.{decimal_digit}
-use Rattle.std.proofs.lemmas.List.Concat.{flat_map_single}
+use Rattle.std.proofs.lemmas.List.Concat.{flat_map-cons, flat_map_single}
 use Rattle.std.specs.Fmt.{decimal}
 use Rattle.std.specs.List.{AllByRecursion}
 use Rattle.opentelemetry.specs.Hex.{hex_text}
@@ -14,15 +13,16 @@ use Rattle.otel_export.specs.PlainSpanData.{PlainSpanData}
 use Rattle.otel_otlp.specs.Fits.{AttributeFits, EventFits, SpanFits}
 use Rattle.otel_otlp.specs.OtlpSpan.{event_json, kind_number, parent_text, span_json, status_json}
 use Rattle.otel_otlp.specs.OtlpValues.{attribute_json}
-use Rattle.otel_shown.specs.Shown.{PlainShownEvent, PlainShownSpan, shown_event, shown_span}
+use Rattle.otel_shown.specs.Shown.{PlainShownEvent, shown_event}
 use Rattle.otel_shown.specs.Shown as shown
 use Rattle.otel_otlp_read.specs.declared.fault.Fault.TheVariants as faults
 use Rattle.otel_otlp_read.specs.Reading.{◌>>=◌, joined, needed, only}
+use Rattle.otel_otlp_read.specs.Requests.{whole_span}
 use Rattle.otel_otlp_read.specs.Numbers.{id_of, is_integer, moment_of, parent_number, parent_of, whole_number}
-use Rattle.otel_otlp_read.specs.SpanParts.{attribute_line, attributes_of, event_in, events_of, kind_of}
+use Rattle.otel_otlp_read.specs.SpanParts.{PlainAttributes, and_attributes, attributes_from, attributes_of}
+use Rattle.otel_otlp_read.specs.SpanParts.{event_in, events_of, kind_of, of_attribute}
 use Rattle.otel_otlp_read.specs.SpanParts.{numbered_code, numbered_kind, span_in, status_in, status_of}
-use Rattle.otel_otlp_read.specs.SpanParts.{status_with}
-use Rattle.otel_otlp_read.proofs.DigitsRead.{decimal_whole, hex_id, hex_parent}
+use Rattle.otel_otlp_read.proofs.DigitsRead.{decimal_whole, hex_id, hex_parent, signed_integer}
 use Rattle.otel_otlp_read.proofs.ValuesRead.{attribute_back, joined_back, listed-items_of}
 
 -- a moment
@@ -37,22 +37,25 @@ parent_back : (n : ℕ) → n < 2 ^ 64 → parent_number (parent_text n) ≡ Som
 parent_back zero small = refl
 parent_back (suc n) small = ap parent_number (some_parent n) ∙ hex_parent (suc n) (omega arith)
 
+-- a digit is a whole number
+digit_integer : (n : ℕ) → n < 10 → is_integer (decimal n) ≡ true
+digit_integer n small = signed_integer (pos n) (record { sfits = omega arith })
+
 -- a kind
 kind_back : (kind : SpanKind) → numbered_kind (decimal (kind_number kind)) ≡ Ok kind
-unfolding numbered_kind is_integer whole_number
-kind_back kinds.Internal = ap numbered_kind (decimal_digit 1 (omega arith))
-kind_back kinds.Server = ap numbered_kind (decimal_digit 2 (omega arith))
-kind_back kinds.Client = ap numbered_kind (decimal_digit 3 (omega arith))
-kind_back kinds.Producer = ap numbered_kind (decimal_digit 4 (omega arith))
-kind_back kinds.Consumer = ap numbered_kind (decimal_digit 5 (omega arith))
+unfolding numbered_kind
+kind_back kinds.Internal = rw (decimal_whole 1 (omega arith), digit_integer 1 (omega arith)) refl
+kind_back kinds.Server = rw (decimal_whole 2 (omega arith)) refl
+kind_back kinds.Client = rw (decimal_whole 3 (omega arith)) refl
+kind_back kinds.Producer = rw (decimal_whole 4 (omega arith)) refl
+kind_back kinds.Consumer = rw (decimal_whole 5 (omega arith)) refl
 
 -- a status
 status_back : (status : PlainStatus) → status_in (status_json status) ≡ Ok status
-unfolding status_in numbered_code is_integer whole_number
-status_back unset = ap (λ t. numbered_code t >>= λ code. Ok (status_with code [])) (decimal_digit 0 (omega arith))
-status_back ok = ap (λ t. numbered_code t >>= λ code. Ok (status_with code [])) (decimal_digit 1 (omega arith))
-status_back (error description) =
-    ap (λ t. numbered_code t >>= λ code. Ok (status_with code description)) (decimal_digit 2 (omega arith))
+unfolding status_in numbered_code
+status_back unset = rw (decimal_whole 0 (omega arith), digit_integer 0 (omega arith)) refl
+status_back ok = rw (decimal_whole 1 (omega arith)) refl
+status_back (error description) = rw (decimal_whole 2 (omega arith)) refl
 
 -- an event
 event_back : (event : PlainEvent) → EventFits event → event_in (event_json event) ≡ Ok (shown_event event)
@@ -60,11 +63,21 @@ unfolding event_in
 event_back event h =
     ap (λ r. r >>= λ timestamp. Ok (record { timestamp = timestamp; name = event.name })) (moment_back event.timestamp h.timestamp)
 
--- attributes, as they stand in a member
-attributes_back : (attributes : List PlainKeyValue) → AllByRecursion AttributeFits attributes
-    → joined attribute_line (map attribute_json attributes) ≡ Ok (shown.attribute_lines attributes)
-attributes_back attributes h =
-    joined_back attribute_json attribute_line shown.attribute_line AttributeFits attribute_back attributes h
+-- attributes, as they stand in a member: none is left out
+abbrev all_attributes : List PlainKeyValue → PlainAttributes
+all_attributes attributes = record { lines = shown.attribute_lines attributes; left_out = [] }
+
+attributes_back : (number : ℕ) (attributes : List PlainKeyValue) → AllByRecursion AttributeFits attributes
+    → attributes_from number (map attribute_json attributes) ≡ all_attributes attributes
+unfolding attributes_from
+attributes_back number [] h = refl
+attributes_back number (attribute ∷ attributes) h =
+    ap (λ r. and_attributes (of_attribute number r) (attributes_from (number + 1) (map attribute_json attributes)))
+    (attribute_back attribute h.0)
+    ∙ ap (and_attributes (record { lines = shown.attribute_line attribute; left_out = [] }))
+    (attributes_back (number + 1) attributes h.1)
+    ∙ ap (λ lines. record { lines = lines; left_out = [] })
+    (sym (flat_map-cons shown.attribute_line attribute attributes))
 
 -- and events
 all_events_back : (events : List PlainEvent) → AllByRecursion EventFits events
@@ -101,11 +114,11 @@ module _ (span : PlainSpanData) (h : SpanFits span) where
   span_status_back : status_of (span_json span) ≡ Ok span.status
   span_status_back = status_back span.status
 
-  span_attributes_back : attributes_of (span_json span) ≡ Ok (shown.attribute_lines span.attributes)
+  span_attributes_back : attributes_of (span_json span) ≡ Ok (all_attributes span.attributes)
   unfolding attributes_of
   span_attributes_back =
-      ap (joined attribute_line) (listed-items_of (map attribute_json span.attributes))
-      ∙ attributes_back span.attributes h.attributes
+      ap (λ js. Ok (attributes_from 1 js)) (listed-items_of (map attribute_json span.attributes))
+      ∙ ap Ok (attributes_back 1 span.attributes h.attributes)
 
   span_events_back : events_of (span_json span) ≡ Ok (map shown_event span.events.events)
   unfolding events_of
@@ -113,7 +126,7 @@ module _ (span : PlainSpanData) (h : SpanFits span) where
       ap (joined (λ item. only (event_in item))) (listed-items_of (map event_json span.events.events))
       ∙ all_events_back span.events.events h.events
 
-  pub span_back : (service : List ℕ) → span_in service (span_json span) ≡ Ok (shown_span service span)
+  pub span_back : (service : List ℕ) → span_in service (span_json span) ≡ Ok (whole_span service span)
   unfolding span_in
   span_back service =
       rw (

@@ -76,7 +76,7 @@ around_fails (errors.Fault fault) front first last (Err other) h = h
 
 module _ {V A : Type 0} (view : V → Json) (read : Json → Result (List A) Fault) where
   -- what is left, of which x is the first
-  first_left : (items : List V) (i : ℕ) (x : V) → i < length items → x ≡ get_or items i x
+  pub first_left : (items : List V) (i : ℕ) (x : V) → i < length items → x ≡ get_or items i x
       → drop i items ≡ x ∷ drop (i + 1) items
   first_left items i x within is = drop_more items i x within ∙ ap (λ y. y ∷ drop (i + 1) items) (sym is)
 

@@ -5,6 +5,7 @@ use Rattle.std.specs.Prelude.{Result, Ok, Err, option_and_then, if◌then◌else
 use Rattle.std.specs.Str.{bytes_eq}
 use Rattle.json.specs.Json.{Json, null, boolean, number, string, array, object}
 use Rattle.json.specs.Find.{as_bool, as_str}
+use Rattle.json.specs.Word.{after_number}
 use Rattle.opentelemetry.specs.ValueText.{quoted_text, truth_text}
 use Rattle.otel_otlp_read.specs.declared.fault.Fault.{Fault}
 use Rattle.otel_otlp_read.specs.declared.fault.Fault.TheVariants as faults
@@ -53,12 +54,22 @@ shown_integer v = needed faults.IntForm (option_and_then integer_text (number_te
 abbrev pub is_float_word : List ℕ → Bool
 is_float_word text = bytes_eq text (codes "NaN") || bytes_eq text (codes "Infinity") || bytes_eq text (codes "-Infinity")
 
--- a number as it stands, or one of the words
+-- whether all of a text was read
+abbrev pub is_read : Option (List ℕ) → Bool
+is_read None = false
+is_read (Some []) = true
+is_read (Some (b ∷ bs)) = false
+
+-- whether a text in a string is a number of JSON
+abbrev pub is_number : List ℕ → Bool
+is_number text = is_read (after_number text)
+
+-- a number as it stands, in a string or not, or one of the words
 abbrev pub double_text : Json → Option (List ℕ)
 double_text null = None
 double_text (boolean _) = None
 double_text (number text) = Some text
-double_text (string text) = if is_float_word text then Some text else None
+double_text (string text) = if is_float_word text || is_number text then Some text else None
 double_text (array _) = None
 double_text (object _) = None
 

@@ -1,27 +1,31 @@
 -- Whole inputs: a document a line, or one document over many lines.
 use Rattle.std.specs.Prelude.{ℕ, ◌+◌, ◌&&◌, ◌||◌, ◌==◌, Bool, true, List, [], ◌∷◌, ◌++◌, Option, Some, None}
-use Rattle.std.specs.Prelude.{Result, Ok, Err, if◌then◌else◌, is_some}
-use Rattle.std.specs.List.{list_all, slice_split}
+use Rattle.std.specs.Prelude.{Result, Ok, Err, if◌then◌else◌, is_some, map}
+use Rattle.std.specs.List.{flat_map, list_all, slice_split}
 use Rattle.std.specs.Str.{is_utf8}
 use Rattle.json.specs.Json.{Json, document}
 use Rattle.otel_shown.specs.Shown.{PlainShownSpan}
+use Rattle.otel_otlp_read.specs.declared.attributes.LeftOut.{LeftOut}
 use Rattle.otel_otlp_read.specs.declared.fault.Fault.{Fault}
 use Rattle.otel_otlp_read.specs.declared.fault.Fault.TheVariants as faults
 use Rattle.otel_otlp_read.specs.declared.input.LineFault.{LineFault}
 use Rattle.otel_otlp_read.specs.Requests.{read_request}
+use Rattle.otel_otlp_read.specs.SpanParts.{PlainReadSpan}
 
 -- the spans of the request that a text is, if it is JSON
-abbrev pub read_parsed : Option Json → Result (List PlainShownSpan) Fault
+abbrev pub read_parsed : Option Json → Result (List PlainReadSpan) Fault
 read_parsed None = Err faults.NotJson
 read_parsed (Some j) = read_request j
 
-unfoldable pub read_document : List ℕ → Result (List PlainShownSpan) Fault
+unfoldable pub read_document : List ℕ → Result (List PlainReadSpan) Fault
 read_document text = if is_utf8 text then read_parsed (document text) else Err faults.NotJson
 
--- what is read of an input: its spans in order, and the faults of its lines
+-- what is read of an input: its spans in order, the faults of its lines with the attributes that were left out, and how
+-- many requests had no spans
 pub record PlainReadText : Type 0 where
   pub spans : List PlainShownSpan
   pub faults : List LineFault
+  pub spanless : ℕ
 
 -- the lines of a text; a carriage return at the end of one is white space
 abbrev pub text_lines : List ℕ → List (List ℕ)
@@ -41,16 +45,49 @@ is_blank line = list_all is_space line
 
 -- nothing is read of nothing
 abbrev pub nothing_read : PlainReadText
-nothing_read = record { spans = []; faults = [] }
+nothing_read = record { spans = []; faults = []; spanless = 0 }
 
 -- what is read of one part of an input and then of another
 abbrev pub and_read : PlainReadText → PlainReadText → PlainReadText
-and_read first second = record { spans = first.spans ++ second.spans; faults = first.faults ++ second.faults }
+and_read first second = record {
+  spans = first.spans ++ second.spans;
+  faults = first.faults ++ second.faults;
+  spanless = first.spanless + second.spanless;
+}
 
--- the spans of a document that begins in a line, or its fault
-abbrev pub of_document : ℕ → Result (List PlainShownSpan) Fault → PlainReadText
-of_document line (Ok spans) = record { spans = spans; faults = [] }
-of_document line (Err fault) = record { spans = []; faults = record { line = line; fault = fault } ∷ [] }
+-- 1 where there is nothing
+abbrev pub one_if_none : {A : Type 0} → List A → ℕ
+one_if_none [] = 1
+one_if_none (x ∷ xs) = 0
+
+-- how many of batches have no span
+abbrev pub spanless_in : {A : Type 0} → List (List A) → ℕ
+spanless_in [] = 0
+spanless_in (batch ∷ batches) = one_if_none batch + spanless_in batches
+
+-- an attribute that was left out of a span of a document that begins in a line
+abbrev pub left_fault : ℕ → ℕ → LeftOut → LineFault
+left_fault line span_id left = record {
+  line = line;
+  attribute = Some (record { span_id = span_id; number = left.number });
+  fault = left.fault;
+}
+
+abbrev pub left_faults : ℕ → PlainReadSpan → List LineFault
+left_faults line read = map (left_fault line read.span.span_id) read.left_out
+
+-- a document that begins in a line: its spans, or its fault
+abbrev pub of_document : ℕ → Result (List PlainReadSpan) Fault → PlainReadText
+of_document line (Ok reads) = record {
+  spans = map (λ read. read.span) reads;
+  faults = flat_map (left_faults line) reads;
+  spanless = one_if_none reads;
+}
+of_document line (Err fault) = record {
+  spans = [];
+  faults = record { line = line; attribute = None; fault = fault } ∷ [];
+  spanless = 0;
+}
 
 -- a line: nothing where it is blank, else a document
 abbrev pub of_line : ℕ → List ℕ → PlainReadText

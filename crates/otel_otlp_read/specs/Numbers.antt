@@ -1,8 +1,10 @@
--- Numbers and ids as the protocol's JSON writes them: a number of 64 bits in digits, in a string or not; an id in
--- hexadecimal digits of either case.
-use Rattle.std.specs.Prelude.{ℕ, ◌+◌, ◌-◌, ◌*◌, ◌^◌, ◌==◌, ◌&&◌, Bool, false, List, [], ◌∷◌, drop, length, slice_index}
+-- Numbers and ids as the protocol's JSON writes them: a whole number of 64 bits, in a string or not, maybe with a point
+-- or an exponent; an id in hexadecimal digits of either case.
+use Rattle.std.specs.Prelude.{ℕ, ◌+◌, ◌-◌, ◌*◌, ◌^◌, ◌==◌, ◌&&◌, ◌++◌, Bool, false, List, [], ◌∷◌, drop, length, slice_index}
 use Rattle.std.specs.Prelude.{Option, Some, None, Result, Err, option_and_then, if◌then◌else◌, nat_le, nat_lt}
 use Rattle.std.specs.Char.{digit_value}
+use Rattle.std.specs.Str.Parse.{digits_value}
+use Rattle.fast_float.specs.Text.{Parts, has_digits, point_at, scan, whole_of}
 use Rattle.json.specs.Json.{Json, null, boolean, number, string, array, object}
 use Rattle.json.specs.Find.{as_str}
 use Rattle.otel_otlp_read.specs.declared.fault.Fault.{Fault}
@@ -20,17 +22,30 @@ digits_after radix n (b ∷ bs) =
 abbrev pub if_wide : ℕ → Option ℕ
 if_wide n = if nat_lt n (2 ^ 64) then Some n else None
 
--- the number of 64 bits that 1 to 20 decimal digits spell
+-- the number of 64 bits that a numeral writes, if it is whole: no digit behind the point counts, as of 1.0 and 2.50e1
+abbrev pub whole_in : Parts → Option ℕ
+whole_in p = if digits_value 10 (drop (point_at p) (p.whole ++ p.fraction)) == 0 then if_wide (whole_of p) else None
+
+-- the whole number of 64 bits that a text spells without a sign: 1000, 1e3, 1000.0
 unfoldable pub whole_number : List ℕ → Option ℕ
 whole_number bytes =
-    if nat_lt 0 (length bytes) && nat_le (length bytes) 20 then option_and_then if_wide (digits_after 10 0 bytes) else None
+    if has_digits (scan bytes) && ((scan bytes).len == length bytes) then whole_in (scan bytes) else None
+
+-- whether there is a number, and it is this one
+abbrev pub is_exactly : ℕ → Option ℕ → Bool
+is_exactly n None = false
+is_exactly n (Some m) = m == n
+
+-- whether a text spells this number
+abbrev pub spells : ℕ → List ℕ → Bool
+spells n bytes = is_exactly n (whole_number bytes)
 
 -- whether there is a number, of at most this
 abbrev pub is_within : ℕ → Option ℕ → Bool
 is_within most None = false
 is_within most (Some n) = nat_le n most
 
--- whether bytes spell a number of 64 bits with a sign: digits, with a minus in front or not
+-- whether bytes spell a whole number of 64 bits with a sign, with a minus in front or not
 unfoldable pub is_integer : List ℕ → Bool
 is_integer bytes =
     if slice_index bytes 0 == 45 then is_within (2 ^ 63) (whole_number (drop 1 bytes))

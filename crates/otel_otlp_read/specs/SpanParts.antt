@@ -1,27 +1,29 @@
--- A span of a request, with its kind, its status, its attributes and its events. What is not shown is not looked at.
-use Rattle.std.specs.Prelude.{ℕ, List, ◌∷◌, codes, Result, Ok, Err, if◌then◌else◌, false}
+-- A span of a request, with its kind, its status, its attributes and its events. What is not shown is not looked at. An
+-- attribute that does not read is left out.
+use Rattle.std.specs.Prelude.{ℕ, ◌+◌, List, [], ◌∷◌, ◌++◌, codes, Result, Ok, Err, if◌then◌else◌, false}
 use Rattle.std.specs.Str.{bytes_eq}
 use Rattle.json.specs.Json.{Json, null, boolean, number, string, array, object}
 use Rattle.opentelemetry.specs.Plain.{PlainStatus, unset, error, ok}
 use Rattle.opentelemetry.specs.declared.trace.span_kind.SpanKind.{SpanKind}
 use Rattle.opentelemetry.specs.declared.trace.span_kind.SpanKind.TheVariants as kinds
 use Rattle.otel_shown.specs.Shown.{PlainShownEvent, PlainShownSpan}
+use Rattle.otel_otlp_read.specs.declared.attributes.LeftOut.{LeftOut}
 use Rattle.otel_otlp_read.specs.declared.fault.Fault.{Fault}
 use Rattle.otel_otlp_read.specs.declared.fault.Fault.TheVariants as faults
 use Rattle.otel_otlp_read.specs.declared.status.StatusCode.{StatusCode}
 use Rattle.otel_otlp_read.specs.declared.status.StatusCode.TheVariants as status_codes
 use Rattle.otel_otlp_read.specs.Reading.{◌>>=◌, joined, only}
 use Rattle.otel_otlp_read.specs.Members.{given, list_of, object_or, or_default, text_of}
-use Rattle.otel_otlp_read.specs.Numbers.{id_of, is_integer, moment_of, parent_of}
+use Rattle.otel_otlp_read.specs.Numbers.{id_of, is_integer, moment_of, parent_of, spells}
 use Rattle.otel_otlp_read.specs.AnyValue.{shown_pair, shown_value}
 
 -- a kind by its number; one that is not known, as one that is not said, is internal
 unfoldable pub numbered_kind : List ℕ → Result SpanKind Fault
 numbered_kind text =
-    if bytes_eq text (codes "2") then Ok kinds.Server else
-    (if bytes_eq text (codes "3") then Ok kinds.Client else
-    (if bytes_eq text (codes "4") then Ok kinds.Producer else
-    (if bytes_eq text (codes "5") then Ok kinds.Consumer else
+    if spells 2 text then Ok kinds.Server else
+    (if spells 3 text then Ok kinds.Client else
+    (if spells 4 text then Ok kinds.Producer else
+    (if spells 5 text then Ok kinds.Consumer else
     (if is_integer text then Ok kinds.Internal else Err faults.KindForm))))
 
 -- and by its name
@@ -48,8 +50,8 @@ kind_of j = or_default kinds.Internal kind_in (given (codes "kind") j)
 -- the code of a status by its number; one that is not known is unset
 unfoldable pub numbered_code : List ℕ → Result StatusCode Fault
 numbered_code text =
-    if bytes_eq text (codes "1") then Ok status_codes.Ok else
-    (if bytes_eq text (codes "2") then Ok status_codes.Error else
+    if spells 1 text then Ok status_codes.Ok else
+    (if spells 2 text then Ok status_codes.Error else
     (if is_integer text then Ok status_codes.Unset else Err faults.CodeForm))
 
 -- and by its name
@@ -90,8 +92,32 @@ status_of j = or_default unset status_in (given (codes "status") j)
 unfoldable pub attribute_line : Json → Result (List ℕ) Fault
 attribute_line j = shown_pair (shown_value 64 false) j >>= λ text. Ok (10 ∷ text)
 
-unfoldable pub attributes_of : Json → Result (List ℕ) Fault
-attributes_of j = list_of (codes "attributes") faults.AttributesType j >>= λ items. joined attribute_line items
+-- what is read of attributes: their lines, and those that were left out, by their numbers from 1, with why
+pub record PlainAttributes : Type 0 where
+  pub lines : List ℕ
+  pub left_out : List LeftOut
+
+abbrev pub no_attributes : PlainAttributes
+no_attributes = record { lines = []; left_out = [] }
+
+abbrev pub and_attributes : PlainAttributes → PlainAttributes → PlainAttributes
+and_attributes first second = record {
+  lines = first.lines ++ second.lines;
+  left_out = first.left_out ++ second.left_out;
+}
+
+-- what is read of one of them
+abbrev pub of_attribute : ℕ → Result (List ℕ) Fault → PlainAttributes
+of_attribute n (Ok line) = record { lines = line; left_out = [] }
+of_attribute n (Err fault) = record { lines = []; left_out = record { number = n; fault = fault } ∷ [] }
+
+-- what is read of attributes, the first of which has this number
+unfoldable pub attributes_from : ℕ → List Json → PlainAttributes
+attributes_from n [] = no_attributes
+attributes_from n (j ∷ js) = and_attributes (of_attribute n (attribute_line j)) (attributes_from (n + 1) js)
+
+unfoldable pub attributes_of : Json → Result PlainAttributes Fault
+attributes_of j = list_of (codes "attributes") faults.AttributesType j >>= λ items. Ok (attributes_from 1 items)
 
 unfoldable pub event_in : Json → Result PlainShownEvent Fault
 event_in j = do
@@ -103,8 +129,13 @@ event_in j = do
 unfoldable pub events_of : Json → Result (List PlainShownEvent) Fault
 events_of j = list_of (codes "events") faults.EventsType j >>= λ items. joined (λ item. only (event_in item)) items
 
+-- a span as it is shown, and which of its attributes were left out
+pub record PlainReadSpan : Type 0 where
+  pub span : PlainShownSpan
+  pub left_out : List LeftOut
+
 -- a span of a service
-unfoldable pub span_in : List ℕ → Json → Result PlainShownSpan Fault
+unfoldable pub span_in : List ℕ → Json → Result PlainReadSpan Fault
 span_in service j = do
   _ ← object_or faults.SpanType j
   trace_id ← id_of (codes "traceId") 32 faults.TraceIdMissing faults.TraceIdForm j
@@ -118,15 +149,18 @@ span_in service j = do
   attributes ← attributes_of j
   events ← events_of j
   Ok (record {
-    trace_id = trace_id;
-    span_id = span_id;
-    parent_span_id = parent_span_id;
-    name = name;
-    service = service;
-    kind = kind;
-    start_time = start_time;
-    end_time = end_time;
-    status = status;
-    attributes = attributes;
-    events = events;
+    span = record {
+      trace_id = trace_id;
+      span_id = span_id;
+      parent_span_id = parent_span_id;
+      name = name;
+      service = service;
+      kind = kind;
+      start_time = start_time;
+      end_time = end_time;
+      status = status;
+      attributes = attributes.lines;
+      events = events;
+    };
+    left_out = attributes.left_out;
   })

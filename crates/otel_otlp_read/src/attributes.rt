@@ -1,41 +1,95 @@
-//! The attributes of a span, as lines of one text.
+//! The attributes of a span, as lines of one text. One that does not read is left out, and named by its number.
 
-ghost use Rattle.std.specs.Prelude.{map, string_bytes};
+ghost use Rattle.std.specs.Prelude.{◌≡◌, IfOk, OnOk, map, string_bytes};
 ghost use Rattle.json.specs.Value.{value_view};
-ghost use Rattle.otel_otlp_read.specs.Reading.{Gives, grown, joined};
-ghost use Rattle.otel_otlp_read.specs.SpanParts.{attribute_line, attributes_of};
+ghost use Rattle.otel_otlp_read.specs.Reading.{Gives};
+ghost use Rattle.otel_otlp_read.specs.SpanParts.{attribute_line, attributes_from, attributes_of};
 
 use crate::fault::{Fault, ReadError};
 use crate::member::list;
 use crate::value::{VALUE_DEPTH, push_pair};
 use json::Value;
-use std::alloc::Global;
+use std::alloc::{AllocError, Global};
+use std::marker::Model;
 
-/// Appends the line of an attribute: a line feed, its key, `=` and the text of its value.
-fn push_attribute(out: &mut String, attribute: &Value) -> Result<(), ReadError>
-    ensures { Gives (λ _. string_bytes out.new) result
-        (grown (string_bytes out.old) (attribute_line (value_view attribute.now))) }
-{
-    out.push_str("\n")?;
-    push_pair(out, attribute, VALUE_DEPTH, false)
+/// An attribute that does not read: its number in its span, from 1, and why.
+#[derive(Clone, Copy, Debug, PartialEq, Eq)]
+pub struct LeftOut {
+    pub number: u64,
+    pub fault: Fault,
 }
 
-/// The lines of attributes, one after the other.
-fn attribute_lines(alloc: Global, items: &[Value]) -> Result<String, ReadError>
-    ensures { Gives string_bytes result (joined attribute_line (map value_view items.now)) }
-{
-    let mut out = String::new(alloc);
-    for item in items {
-        push_attribute(&mut out, item)?;
+/// The lines of the attributes that read, and the others.
+#[derive(Drop)]
+pub(crate) struct ReadAttributes {
+    pub(crate) lines: String,
+    pub(crate) left_out: Vec<LeftOut>,
+}
+
+impl Model for ReadAttributes {
+    ghost use Rattle.std.specs.Prelude.{string_bytes};
+    ghost use Rattle.otel_otlp_read.specs.SpanParts.{PlainAttributes};
+
+    ghost Value = { PlainAttributes };
+
+    ghost view = { λ read. record { lines = string_bytes read.lines; left_out = read.left_out.items } };
+}
+
+impl ReadAttributes {
+    ghost use Rattle.otel_otlp_read.specs.SpanParts.{and_attributes, no_attributes, of_attribute};
+
+    /// None.
+    fn new(alloc: Global) -> ReadAttributes
+        ensures { result ≡ no_attributes }
+    {
+        ReadAttributes {
+            lines: String::new(alloc),
+            left_out: Vec::new(alloc),
+        }
     }
-    Ok(out)
+
+    /// Appends the attribute of a number. The line is room for its text.
+    fn add(&mut self, number: u64, attribute: &Value, line: &mut String) -> Result<(), AllocError>
+        ensures { OnOk result (self.new
+            ≡ and_attributes self.old (of_attribute number (attribute_line (value_view attribute.now)))) }
+    {
+        match write_attribute(line, attribute) {
+            Ok(()) => self.lines.push_str(line.as_str()),
+            Err(ReadError::Fault(fault)) => {
+                self.left_out.push(LeftOut { number, fault })?;
+                Ok(())
+            }
+            Err(ReadError::OutOfMemory) => Err(AllocError),
+        }
+    }
 }
 
-/// The lines of the attributes of a span, in order.
+/// Writes the line of an attribute in the place of a text: a line feed, its key, `=` and the text of its value.
+fn write_attribute(line: &mut String, attribute: &Value) -> Result<(), ReadError>
+    ensures { Gives (λ _. string_bytes line.new) result (attribute_line (value_view attribute.now)) }
+{
+    line.clear();
+    line.push_str("\n")?;
+    push_pair(line, attribute, VALUE_DEPTH, false)
+}
+
+/// What is read of attributes, one after the other.
+fn each_attribute(alloc: Global, items: &[Value]) -> Result<ReadAttributes, AllocError>
+    ensures { IfOk result (λ read. read ≡ attributes_from 1 (map value_view items.now)) }
+{
+    let mut read = ReadAttributes::new(alloc);
+    let mut line = String::new(alloc);
+    for (place, item) in items.iter().enumerate() {
+        read.add(place as u64 + 1, item, &mut line)?;
+    }
+    Ok(read)
+}
+
+/// What is read of the attributes of a span, in order.
 #[tactic(auto, unfolding(crate::specs::SpanParts::attributes_of))]
-pub(crate) fn attributes(alloc: Global, span: &Value) -> Result<String, ReadError>
-    ensures { Gives string_bytes result (attributes_of (value_view span.now)) }
+pub(crate) fn attributes(alloc: Global, span: &Value) -> Result<ReadAttributes, ReadError>
+    ensures { Gives (λ read. read) result (attributes_of (value_view span.now)) }
 {
     let items = list(span, "attributes", Fault::AttributesType)?;
-    attribute_lines(alloc, items)
+    Ok(each_attribute(alloc, items)?)
 }

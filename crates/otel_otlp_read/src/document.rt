@@ -5,8 +5,8 @@ ghost use Rattle.otel_otlp_read.specs.Reading.{Gives};
 
 use crate::fault::{Fault, ReadError};
 use crate::request::read_request;
+use crate::span::ReadSpan;
 use json::{Error, Scratch, Value};
-use otel_shown::ShownSpan;
 use std::alloc::Global;
 
 /// The spans of the request that a text of JSON is, in order. An error is its first fault, or that memory ran out. The
@@ -16,7 +16,7 @@ pub fn read_document(
     alloc: Global,
     text: &[u8],
     scratch: &mut Scratch,
-) -> Result<Vec<ShownSpan>, ReadError>
+) -> Result<Vec<ReadSpan>, ReadError>
     ensures { Gives (λ spans. spans.items) result (read_document text.now) }
 {
     match Value::from_slice(alloc, text, scratch) {

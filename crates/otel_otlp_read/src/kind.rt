@@ -7,7 +7,7 @@ ghost use Rattle.otel_otlp_read.specs.SpanParts.{kind_of, named_kind, numbered_k
 
 use crate::fault::{Fault, ReadError};
 use crate::member::given;
-use crate::number::is_integer;
+use crate::number::{is_integer, spells};
 use json::Value;
 use opentelemetry::trace::SpanKind;
 
@@ -16,13 +16,13 @@ use opentelemetry::trace::SpanKind;
 fn numbered_kind(text: &str) -> Result<SpanKind, ReadError>
     ensures { Gives (λ kind. kind) result (numbered_kind text.now) }
 {
-    if text == "2" {
+    if spells(text, 2) {
         Ok(SpanKind::Server)
-    } else if text == "3" {
+    } else if spells(text, 3) {
         Ok(SpanKind::Client)
-    } else if text == "4" {
+    } else if spells(text, 4) {
         Ok(SpanKind::Producer)
-    } else if text == "5" {
+    } else if spells(text, 5) {
         Ok(SpanKind::Consumer)
     } else if is_integer(text.as_bytes()) {
         Ok(SpanKind::Internal)

@@ -1,7 +1,8 @@
 // SPDX-License-Identifier: Apache-2.0
 //! Spans out of the OpenTelemetry protocol's JSON, of any producer: the requests that this repository's exporter, other
 //! SDKs and the Collector's file exporter write, a line each or one over many lines. Members that are not shown, and
-//! names that are not known, are left out; what does not read is named with its line.
+//! names that are not known, are left out; an attribute that does not read is left out too, and that and any other part
+//! that does not read is named with its line.
 #![tactic(auto)]
 
 mod attributes;
@@ -20,7 +21,9 @@ mod span;
 mod status;
 mod value;
 
+pub use attributes::LeftOut;
 pub use document::read_document;
 pub use fault::{Fault, ReadError};
-pub use input::{LineFault, ReadText, read_text};
+pub use input::{AttributePlace, LineFault, ReadText, read_text};
 pub use request::read_request;
+pub use span::ReadSpan;

@@ -1,20 +1,18 @@
-//! Numbers and ids in digits: of 64 bits in a string or not, and in hexadecimal digits of either case.
+//! Numbers and ids: whole ones of 64 bits in a string or not, and in hexadecimal digits of either case.
 
 ghost use Rattle.std.specs.Prelude.{◌≡◌, ◌<◌, ◌≤◌, ◌^◌, IfOk, IfSome, codes, length, option_map};
 ghost use Rattle.std.specs.Char.{digit_value};
 ghost use Rattle.json.specs.Value.{value_view};
 ghost use Rattle.otel_otlp_read.specs.Numbers.{digits_after, id_number, id_of, is_integer, is_within, moment_of, number_text};
-ghost use Rattle.otel_otlp_read.specs.Numbers.{parent_number, parent_of, whole_number};
+ghost use Rattle.otel_otlp_read.specs.Numbers.{parent_number, parent_of, spells, whole_number};
 ghost use Rattle.otel_otlp_read.specs.Reading.{Gives};
 ghost use Rattle.otel_otlp_read.specs.declared.fault.Fault.TheVariants as faults;
 
 use crate::fault::{Fault, ReadError};
 use crate::member::given;
+use fast_float::Numeral;
 use json::Value;
 use opentelemetry::{Moment, SpanId, TraceId};
-
-/// How many decimal digits the greatest number of 64 bits has.
-const MOST_DIGITS: usize = 20;
 
 /// What a digit stands for, in either case; 36 for any other byte.
 fn digit_value(byte: u8) -> u8
@@ -46,23 +44,26 @@ fn number_in(digits: &[u8], radix: u8) -> Option<u128>
     Some(number)
 }
 
-/// The number of 64 bits that 1 to 20 decimal digits spell.
+/// The whole number of 64 bits that a text spells without a sign, maybe with a point or an exponent.
 #[tactic(auto, unfolding(crate::specs::Numbers::whole_number))]
-fn whole_number(digits: &[u8]) -> Option<u64>
-    ensures { result ≡ whole_number digits.now }
+fn whole_number(bytes: &[u8]) -> Option<u64>
+    ensures { result ≡ whole_number bytes.now }
 {
-    if digits.is_empty() || digits.len() > MOST_DIGITS {
-        return None;
+    let numeral = Numeral::scan(bytes);
+    if numeral.has_digits() && numeral.len() == bytes.len() {
+        numeral.whole_u64()
+    } else {
+        None
     }
-    match number_in(digits, 10) {
-        Some(number) => {
-            if number < 0x1_0000_0000_0000_0000 {
-                Some(number as u64)
-            } else {
-                None
-            }
-        }
-        None => None,
+}
+
+/// Whether a text spells this number.
+pub(crate) fn spells(text: &str, number: u64) -> bool
+    ensures { result ≡ spells number text.now }
+{
+    match whole_number(text.as_bytes()) {
+        Some(found) => found == number,
+        None => false,
     }
 }
 
@@ -76,7 +77,7 @@ fn is_within(most: u64, number: Option<u64>) -> bool
     }
 }
 
-/// Whether bytes spell a number of 64 bits with a sign: digits, with a minus in front or not.
+/// Whether bytes spell a whole number of 64 bits with a sign, with a minus in front or not.
 #[tactic(auto, unfolding(crate::specs::Numbers::is_integer))]
 pub(crate) fn is_integer(bytes: &[u8]) -> bool
     ensures { result ≡ is_integer bytes.now }

@@ -1,23 +1,24 @@
 //! The spans of a request: of each resource, of each of its scopes, in order.
 
-ghost use Rattle.std.specs.Prelude.{◌≡◌, map};
+ghost use Rattle.std.specs.Prelude.{◌≡◌, is_some, map};
+ghost use Rattle.json.specs.Find.{get};
 ghost use Rattle.json.specs.Value.{value_view};
 ghost use Rattle.otel_otlp_read.specs.Reading.{Gives, grown, joined, only};
-ghost use Rattle.otel_otlp_read.specs.Requests.{is_misnamed, read_request, resource_spans_in, scope_spans_in, well_named};
+ghost use Rattle.otel_otlp_read.specs.Requests.{is_empty_object, is_misnamed, is_request, known_request, read_request};
+ghost use Rattle.otel_otlp_read.specs.Requests.{resource_spans_in, scope_spans_in, well_named};
 ghost use Rattle.otel_otlp_read.specs.SpanParts.{span_in};
 
 use crate::fault::{Fault, ReadError};
 use crate::member::{given, list, object};
 use crate::service::service;
-use crate::span::span;
+use crate::span::{ReadSpan, span};
 use json::Value;
-use otel_shown::ShownSpan;
 use std::alloc::Global;
 
 /// Appends spans of a service. On an error some of them may stand there, as with the functions below.
 fn push_spans(
     alloc: Global,
-    out: &mut Vec<ShownSpan>,
+    out: &mut Vec<ReadSpan>,
     service: &str,
     items: &[Value],
 ) -> Result<(), ReadError>
@@ -35,7 +36,7 @@ fn push_spans(
 #[tactic(auto, unfolding(crate::specs::Requests::scope_spans_in))]
 fn push_scope(
     alloc: Global,
-    out: &mut Vec<ShownSpan>,
+    out: &mut Vec<ReadSpan>,
     service: &str,
     scope: &Value,
 ) -> Result<(), ReadError>
@@ -50,7 +51,7 @@ fn push_scope(
 /// Appends the spans of scopes.
 fn push_scopes(
     alloc: Global,
-    out: &mut Vec<ShownSpan>,
+    out: &mut Vec<ReadSpan>,
     service: &str,
     items: &[Value],
 ) -> Result<(), ReadError>
@@ -85,7 +86,7 @@ fn well_named(resource_spans: &Value) -> Result<(), ReadError>
 
 /// Appends the spans of a resource.
 #[tactic(auto, unfolding(crate::specs::Requests::resource_spans_in))]
-fn push_resource(alloc: Global, out: &mut Vec<ShownSpan>, resource: &Value) -> Result<(), ReadError>
+fn push_resource(alloc: Global, out: &mut Vec<ReadSpan>, resource: &Value) -> Result<(), ReadError>
     ensures { Gives (λ _. out.new.items) result
         (grown out.old.items (resource_spans_in (value_view resource.now))) }
 {
@@ -97,7 +98,7 @@ fn push_resource(alloc: Global, out: &mut Vec<ShownSpan>, resource: &Value) -> R
 }
 
 /// The spans of resources.
-fn each_resource(alloc: Global, items: &[Value]) -> Result<Vec<ShownSpan>, ReadError>
+fn each_resource(alloc: Global, items: &[Value]) -> Result<Vec<ReadSpan>, ReadError>
     ensures { Gives (λ spans. spans.items) result (joined resource_spans_in (map value_view items.now)) }
 {
     let mut out = Vec::new(alloc);
@@ -107,15 +108,53 @@ fn each_resource(alloc: Global, items: &[Value]) -> Result<Vec<ShownSpan>, ReadE
     Ok(out)
 }
 
-/// The spans of an `ExportTraceServiceRequest`, in order. An error is its first fault, or that memory ran out.
+/// Whether a value is an object that says nothing.
+fn is_empty_object(value: &Value) -> bool
+    ensures { result ≡ is_empty_object (value_view value.now) }
+{
+    match value {
+        Value::Object(members) => members.as_slice().is_empty(),
+        _ => false,
+    }
+}
+
+/// Whether an object has a member of a name, also one that is null.
+fn has(object: &Value, name: &str) -> bool
+    ensures { result ≡ is_some (get name.now (value_view object.now)) }
+{
+    object.get(name).is_some()
+}
+
+/// Whether this is a request: one that says nothing, says spans, or what another signal says.
+#[tactic(auto, unfolding(crate::specs::Requests::is_request))]
+fn is_request(request: &Value) -> bool
+    ensures { result ≡ is_request (value_view request.now) }
+{
+    is_empty_object(request)
+        || has(request, "resourceSpans")
+        || has(request, "resourceMetrics")
+        || has(request, "resourceLogs")
+        || has(request, "resourceProfiles")
+}
+
+/// Refuses what is no request.
+fn known_request(request: &Value) -> Result<(), ReadError>
+    ensures { Gives (λ _. tt) result (known_request (value_view request.now)) }
+{
+    if is_request(request) {
+        return Ok(());
+    }
+    Err(ReadError::Fault(Fault::ResourceSpansMissing))
+}
+
+/// The spans of an `ExportTraceServiceRequest`, in order; none where it says nothing of spans, as those of metrics and
+/// logs. An error is its first fault, or that memory ran out.
 #[tactic(auto, unfolding(crate::specs::Requests::read_request))]
-pub fn read_request(alloc: Global, request: &Value) -> Result<Vec<ShownSpan>, ReadError>
+pub fn read_request(alloc: Global, request: &Value) -> Result<Vec<ReadSpan>, ReadError>
     ensures { Gives (λ spans. spans.items) result (read_request (value_view request.now)) }
 {
     object(request, Fault::RequestType)?;
-    if given(request, "resourceSpans").is_none() {
-        return Err(ReadError::Fault(Fault::ResourceSpansMissing));
-    }
+    known_request(request)?;
     let items = list(request, "resourceSpans", Fault::ResourceSpansType)?;
     each_resource(alloc, items)
 }

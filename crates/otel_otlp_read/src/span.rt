@@ -1,10 +1,10 @@
-//! A span of a request.
+//! A span of a request, and which of its attributes were left out.
 
 ghost use Rattle.json.specs.Value.{value_view};
 ghost use Rattle.otel_otlp_read.specs.Reading.{Gives};
 ghost use Rattle.otel_otlp_read.specs.SpanParts.{span_in};
 
-use crate::attributes::attributes;
+use crate::attributes::{LeftOut, ReadAttributes, attributes};
 use crate::event::events;
 use crate::fault::{Fault, ReadError};
 use crate::kind::kind;
@@ -14,10 +14,26 @@ use crate::status::status;
 use json::Value;
 use otel_shown::ShownSpan;
 use std::alloc::Global;
+use std::marker::Model;
 
-/// A span, as it is shown, of a service.
+/// A span as it is shown, and which of its attributes do not read.
+#[derive(Debug, Drop)]
+pub struct ReadSpan {
+    pub span: ShownSpan,
+    pub left_out: Vec<LeftOut>,
+}
+
+impl Model for ReadSpan {
+    ghost use Rattle.otel_otlp_read.specs.SpanParts.{PlainReadSpan};
+
+    ghost Value = { PlainReadSpan };
+
+    ghost view = { λ read. record { span = read.span; left_out = read.left_out.items } };
+}
+
+/// A span of a service.
 #[tactic(auto, unfolding(crate::specs::SpanParts::span_in))]
-pub(crate) fn span(alloc: Global, service: &str, span: &Value) -> Result<ShownSpan, ReadError>
+pub(crate) fn span(alloc: Global, service: &str, span: &Value) -> Result<ReadSpan, ReadError>
     ensures { Gives (λ span. span) result (span_in service.now (value_view span.now)) }
 {
     object(span, Fault::SpanType)?;
@@ -29,11 +45,11 @@ pub(crate) fn span(alloc: Global, service: &str, span: &Value) -> Result<ShownSp
     let start_time = moment(span, "startTimeUnixNano")?;
     let end_time = moment(span, "endTimeUnixNano")?;
     let status = status(alloc, span)?;
-    let attributes = attributes(alloc, span)?;
+    let ReadAttributes { lines, left_out } = attributes(alloc, span)?;
     let events = events(alloc, span)?;
     let name = String::from_str(alloc, name)?;
     let service = String::from_str(alloc, service)?;
-    Ok(ShownSpan {
+    let span = ShownSpan {
         trace_id,
         span_id,
         parent_span_id,
@@ -43,7 +59,8 @@ pub(crate) fn span(alloc: Global, service: &str, span: &Value) -> Result<ShownSp
         start_time,
         end_time,
         status,
-        attributes,
+        attributes: lines,
         events,
-    })
+    };
+    Ok(ReadSpan { span, left_out })
 }

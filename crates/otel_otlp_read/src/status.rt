@@ -8,7 +8,7 @@ ghost use Rattle.otel_otlp_read.specs.SpanParts.{code_member, named_code, number
 
 use crate::fault::{Fault, ReadError};
 use crate::member::{given, object, text};
-use crate::number::is_integer;
+use crate::number::{is_integer, spells};
 use json::Value;
 use opentelemetry::trace::Status;
 use std::alloc::{AllocError, Global};
@@ -26,9 +26,9 @@ enum StatusCode {
 fn numbered_code(text: &str) -> Result<StatusCode, ReadError>
     ensures { Gives (λ code. code) result (numbered_code text.now) }
 {
-    if text == "1" {
+    if spells(text, 1) {
         Ok(StatusCode::Ok)
-    } else if text == "2" {
+    } else if spells(text, 2) {
         Ok(StatusCode::Error)
     } else if is_integer(text.as_bytes()) {
         Ok(StatusCode::Unset)

@@ -3,7 +3,7 @@
 ghost use Rattle.std.specs.Prelude.{◌≡◌, ◌≤◌, false, map, option_and_then, option_map, string_bytes, true};
 ghost use Rattle.json.specs.Value.{value_view};
 ghost use Rattle.otel_otlp_read.specs.AnyValue.{after_comma, closing, comma_joined, double_text, integer_text, kind_count};
-ghost use Rattle.otel_otlp_read.specs.AnyValue.{is_float_word, one_if, one_kind, opening, shown_integer, shown_item};
+ghost use Rattle.otel_otlp_read.specs.AnyValue.{is_float_word, is_number, one_if, one_kind, opening, shown_integer, shown_item};
 ghost use Rattle.otel_otlp_read.specs.AnyValue.{shown_double, shown_list, shown_pair, shown_scalar, shown_string, shown_truth};
 ghost use Rattle.otel_otlp_read.specs.AnyValue.{shown_bytes, shown_value, shown_with};
 ghost use Rattle.otel_otlp_read.specs.Members.{given};
@@ -108,14 +108,21 @@ fn is_float_word(text: &str) -> bool
     text == "NaN" || text == "Infinity" || text == "-Infinity"
 }
 
-/// The text of a number as it stands, or one of the words.
+/// Whether a text in a string is a number of JSON.
+fn is_number(text: &str) -> bool
+    ensures { result ≡ is_number text.now }
+{
+    json::is_number(text)
+}
+
+/// The text of a number as it stands, in a string or not, or one of the words.
 fn double_text<'a>(value: &Value<'a>) -> Option<&'a str>
     ensures { option_map (λ t. t.now) result ≡ double_text (value_view value.now) }
 {
     match value {
         Value::Number(text) => Some(*text),
         Value::String(text) => {
-            if is_float_word(text) {
+            if is_float_word(text) || is_number(text) {
                 Some(*text)
             } else {
                 None

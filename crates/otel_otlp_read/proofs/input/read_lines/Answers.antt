@@ -1,9 +1,10 @@
 -- One line more: a blank one, or a document.
 use Rattle.std.proofs.Common.{◌≡◌, ◌∙◌, ◌+◌, ap, sym, length, arith, Option, List, ℕ}
 use Rattle.std.specs.Borrow.{Bor}
-use Rattle.otel_otlp_read.specs.Inputs.{and_read, lines_after, of_line, read_lines}
+use Rattle.otel_otlp_read.specs.Inputs.{PlainReadText, and_read, lines_after, of_line, read_lines}
 use Rattle.otel_otlp_read.proofs.LeftLines.{left, left_text}
-use Rattle.otel_otlp_read.proofs.LineReading.{first_of_left, left_falls, line_blank, line_there, read_none, read_step}
+use Rattle.otel_otlp_read.proofs.LineReading.{first_of_left, left_falls, line_blank, line_few, line_there}
+use Rattle.otel_otlp_read.proofs.LineReading.{read_none, read_step}
 use Rattle.otel_otlp_read.proofs.input.read_lines.Goals as goal
 use Rattle.otel_otlp_read.proofs.input.read_lines.Goals.{then-not-is_blank+in_ok-add, else-not-is_blank}
 
@@ -24,7 +25,10 @@ loop-left-preserved c =
     ] in
     let long : left (left_text c.loop-left.left) ≡ length c.in-Some.rest.now + 1 =
     ap (λ (o : Option (Bor (List ℕ))). left (left_text o)) c.in-Some.is in
+    let more : c.if-not-is_blank.read.spanless ≡ read.spanless + (of_line number line).spanless =
+    ap (λ (r : PlainReadText). r.spanless) now in
     record {
+      few = omega (arith, more, line_few number line, c.loop-left.invariant.few);
       read = read_step number line (lines_after (left_text after)) read c.if-not-is_blank.read now
           ∙ sym (ap (λ ls. and_read read (read_lines number ls)) lines) ∙ c.loop-left.invariant.read;
       room = omega (arith, left_falls after c.in-Some.rest c.first_line.ensures.shorter, long, c.loop-left.invariant.room);

@@ -1,6 +1,6 @@
 -- What was read of the lines so far, and what is read of those that are left, is all. Each line but the last took a
--- byte at least.
-use Rattle.std.proofs.Common.{◌≡◌, ◌+◌, ◌≤◌, length}
+-- byte at least, and has one request at most.
+use Rattle.std.proofs.Common.{◌≡◌, ◌+◌, ◌<◌, ◌≤◌, length}
 use Rattle.otel_otlp_read.specs.Inputs.{and_read, lines_after, read_lines, text_lines}
 use Rattle.otel_otlp_read.proofs.LeftLines.{left, left_text}
 use Rattle.otel_otlp_read.proofs.input.read_lines.Given as goal
@@ -8,6 +8,7 @@ use Rattle.otel_otlp_read.proofs.input.read_lines.Given as goal
 abbrev pub invariant-loop-left : goal.invariant-loop-left
 invariant-loop-left l = record {
   read : and_read l.read (read_lines l.number (lines_after (left_text l.left))) ≡ read_lines 1 (text_lines l.text);
+  few : l.read.spanless < l.number;
   room : l.number + left (left_text l.left) ≤ length l.text + 2;
 }
 
