@@ -3,8 +3,6 @@ use Rattle.std.proofs.Common.{None, Option, Some, subst, ◌-◌}
 use Rattle.http1.specs.declared.client.Client.{Client}
 use Rattle.http1.specs.Encoder.{encoder_for}
 use Rattle.http1.specs.Client.{after_request}
-use Rattle.std.specs.Prelude.{IfErr, IsErrAnd}
-use Rattle.otel_http_post.specs.declared.error.PostError.{PostError}
 use Rattle.std.proofs.Common.{◌≡◌, ℕ, ◌^◌, ◌<◌, ◌∙◌, Bool, true, false, cond, ltb, not, ◌==◌, List, [], ◌∷◌, ◌++◌}
 use Rattle.std.proofs.Common.{length, refl, sym, ap}
 use Rattle.std.proofs.Common.{append-nil, arith}
@@ -267,9 +265,3 @@ module _ (headers : List Header) (path body : List ℕ) where
           ap (λ (x : Client). finish_refusal (writing x) []) is_whole
           ∙ ap (λ (x : Client). finish_refusal (after_data (writing x) (length body)) []) sent_is ∙ accepted.1 in
           no_memory (finish_refusal (writing whole) []) room need why none refuses
-
--- what holds of the error that a `?` makes
-pub if_error : {T : Type 0} (r : Result T PostError) (P : PostError → Type 0) (out : PostError)
-    → IsErrAnd r (λ e. e ≡ out) → P out → IfErr r P
-if_error (Ok x) P out h p = absurd h
-if_error (Err e) P out h p = subst P (sym h) p

@@ -1,4 +1,4 @@
--- What is said of an answer, where it is an error.
+-- What holds of the error that a `?` makes.
 use Rattle.std.proofs.Common.{◌≡◌, Result, Ok, Err, subst, sym}
 use Rattle.std.specs.Prelude.{IfErr, IsErrAnd, MatchResult}
 

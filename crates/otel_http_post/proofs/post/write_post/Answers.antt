@@ -17,7 +17,8 @@ use Rattle.otel_http_post.specs.Request.{limits}
 use Rattle.otel_http_post.specs.Refusal.{RefusesHeaders, refusal_of}
 use Rattle.std.specs.Prelude.{Err}
 use Rattle.http1.specs.Conn.{data_refusal, finish_refusal}
-use Rattle.otel_http_post.proofs.PostLemmas.{body_refuses, end_refuses, head_refuses, if_error, post_is}
+use Rattle.otel_http_post.proofs.ResultLemmas.{if_err}
+use Rattle.otel_http_post.proofs.PostLemmas.{body_refuses, end_refuses, head_refuses, post_is}
 use Rattle.otel_http_post.proofs.post.write_post.Goals as goal
 
 pub returns-clause-text : goal.returns-clause-text
@@ -77,7 +78,7 @@ returns-in_err-write_request-clause-err c = λ free.
     let outcome : GivesOrRefuses (request_refusal c.new-client.result post path size headers) spare len failed =
     c.in_err-write_request.ensures.outcome in
     let refuses = head_refuses headers path body c.new-client.result c.new-client.ensures spare len why outcome in
-    if_error c.from_residual.result (RefusesHeaders path headers (length body)) (refusal_of why)
+    if_err c.from_residual.result (refusal_of why) (RefusesHeaders path headers (length body))
     c.from_residual.ensures.1 refuses
 
 pub returns-in_err-write_data-clause-err : goal.returns-in_err-write_data-clause-err
@@ -104,7 +105,7 @@ returns-in_err-write_data-clause-err c = λ free.
     body_refuses headers path body c.new-client.result c.new-client.ensures sent
     c.in_ok-write_request.ensures.next spare len c.in_ok-write_request.field-0 gives small free room need why
     outcome in
-    if_error c.from_residual-in_err-write_data.result (RefusesHeaders path headers (length body)) (refusal_of why)
+    if_err c.from_residual-in_err-write_data.result (refusal_of why) (RefusesHeaders path headers (length body))
     c.from_residual-in_err-write_data.ensures.1 refuses
 
 pub returns-in_err-write_end-clause-err : goal.returns-in_err-write_end-clause-err
@@ -132,5 +133,5 @@ returns-in_err-write_end-clause-err c = λ free.
     end_refuses headers path body c.new-client.result c.new-client.ensures sent
     c.in_ok-write_request.ensures.next spare len c.in_ok-write_request.field-0 gives small free whole
     c.in_ok-write_data.ensures.counted room need why outcome in
-    if_error c.from_residual-in_err-write_end.result (RefusesHeaders path headers (length body)) (refusal_of why)
+    if_err c.from_residual-in_err-write_end.result (refusal_of why) (RefusesHeaders path headers (length body))
     c.from_residual-in_err-write_end.ensures.1 refuses
