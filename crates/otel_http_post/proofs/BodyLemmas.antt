@@ -22,7 +22,7 @@ use Rattle.http1.specs.declared.conn.Reading.{Reading}
 use Rattle.http1.specs.declared.conn.Reading.TheVariants as Reads
 use Rattle.http1.specs.declared.decode.Decoder.{Decoder}
 use Rattle.http1.specs.declared.decode.Decoder.TheVariants.{Length, Chunked, UntilClose}
-use Rattle.otel_http_post.specs.declared.body.BodyStep.TheVariants as Body_step
+use Rattle.otel_http_post.specs.declared.body.BodyStep.TheVariants as Piece
 use Rattle.otel_http_post.specs.declared.error.AnswerError.{AnswerError}
 use Rattle.otel_http_post.specs.declared.error.AnswerError.TheVariants as errors
 use Rattle.otel_http_post.specs.Following.{HasBody, HasKept, HasNoEnd, IsInBody, IsOfStream, LeavesBody, RefusesKeeping}
@@ -92,7 +92,7 @@ module _ (begun : Client) (first : Decoder) (received : List ℕ) (client new : 
   }
 
   -- more bytes are needed
-  pub kept_more : TakesPiece client left bytes new after kept Body_step.More
+  pub kept_more : TakesPiece client left bytes new after kept Piece.More
       → HasKept begun first received new after kept
   kept_more (spans, NeedMore, takes, says) =
       let found = reads_at spans NeedMore takes in
@@ -101,7 +101,7 @@ module _ (begun : Client) (first : Decoder) (received : List ℕ) (client new : 
   kept_more (spans, event, takes, says) = absurd says
 
   -- a piece was kept
-  pub kept_piece : TakesPiece client left bytes new after kept Body_step.Kept
+  pub kept_piece : TakesPiece client left bytes new after kept Piece.Kept
       → HasKept begun first received new after kept
   kept_piece (spans, Data s, takes, says) =
       let found = reads_at spans (Data s) takes in
@@ -170,7 +170,7 @@ module _ (begun : Client) (first : Decoder) (received : List ℕ) (client new : 
   rest_bytes more = ap (λ (b : Body). length b.bytes) (sym (rest_of more).1)
 
   -- no more is needed
-  pub nothing_needed : TakesPiece client left bytes new after kept Body_step.More → ⊥
+  pub nothing_needed : TakesPiece client left bytes new after kept Piece.More → ⊥
   nothing_needed (spans, NeedMore, takes, says) =
       let found = reads_at begun first received client new left after bytes kept h spans NeedMore takes in
       let stops : runs_on h.decoder ≡ false = h.runs ∙ nothing_stops first nothing in
@@ -180,7 +180,7 @@ module _ (begun : Client) (first : Decoder) (received : List ℕ) (client new : 
   nothing_needed (spans, event, takes, says) = absurd says
 
   -- no piece of it comes
-  pub nothing_comes : TakesPiece client left bytes new after kept Body_step.Kept → ⊥
+  pub nothing_comes : TakesPiece client left bytes new after kept Piece.Kept → ⊥
   nothing_comes (spans, Data s, takes, says) =
       let found = reads_at begun first received client new left after bytes kept h spans (Data s) takes in
       let inner = found.1.4.forth [] (rest_of []).0 (received ++ []) (rest_of []).2 in
@@ -241,7 +241,7 @@ module _ (begun : Client) (first : Decoder) (begins : IsInBody begun first) (rec
   -- the body has ended
   pub kept_ended : (client new : Client) (left after bytes kept : List ℕ)
       → HasKept begun first received client left bytes
-      → TakesPiece client left bytes new after kept Body_step.Ended → length kept ≤ limit
+      → TakesPiece client left bytes new after kept Piece.Ended → length kept ≤ limit
       → HasBody begun first received remaining limit kept new after
   kept_ended client new left after bytes kept h (spans, End count, takes, says) within =
       let found = reads_at begun first received client new left after bytes kept h spans (End count) takes in
@@ -358,7 +358,7 @@ closes_client c n e = ap (λ (r : Reading). (at_eof r c).1) (closes_body c n e)
 pub kept_came : (begun : Client) (first : Decoder) (before received came : List ℕ) (client new filled : Client)
     (left after input bytes kept : List ℕ)
     → HasKept begun first (before ++ received) client left bytes
-    → TakesPiece client left bytes new after kept Body_step.More → filled ≡ new → input ≡ after ++ came
+    → TakesPiece client left bytes new after kept Piece.More → filled ≡ new → input ≡ after ++ came
     → HasKept begun first (before ++ (received ++ came)) filled input kept
 kept_came begun first before received came client new filled left after input bytes kept old takes same is =
     let h = kept_more begun first (before ++ received) client new left after bytes kept old takes in

@@ -21,7 +21,7 @@ use Rattle.http1.specs.declared.decode.Decoder.TheVariants as Decoding
 use Rattle.http1.specs.declared.framing.Framing.{Framing}
 use Rattle.http1.specs.declared.framing.MethodKind.TheVariants as Method
 use Rattle.otel_http_post.specs.declared.body.BodyStep.{BodyStep}
-use Rattle.otel_http_post.specs.declared.body.BodyStep.TheVariants as Body_step
+use Rattle.otel_http_post.specs.declared.body.BodyStep.TheVariants as Piece
 use Rattle.otel_http_post.specs.declared.error.AnswerError.{AnswerError}
 use Rattle.otel_http_post.specs.declared.error.AnswerError.TheVariants as errors
 use Rattle.otel_http_post.specs.declared.head.AnswerHead.{AnswerHead}
@@ -79,9 +79,9 @@ RefusesHead client input errors.OutOfMemory = Unit {0}
 
 -- what a step says of an event within a body, and what it keeps
 abbrev pub SaysPiece : List ℕ → List ℕ → List ℕ → Event ResponseSpans → BodyStep → Type 0
-SaysPiece input body kept NeedMore Body_step.More = kept ≡ body
-SaysPiece input body kept (Data s) Body_step.Kept = kept ≡ body ++ span_bytes input s
-SaysPiece input body kept (End count) Body_step.Ended = kept ≡ body
+SaysPiece input body kept NeedMore Piece.More = kept ≡ body
+SaysPiece input body kept (Data s) Piece.Kept = kept ≡ body ++ span_bytes input s
+SaysPiece input body kept (End count) Piece.Ended = kept ≡ body
 SaysPiece input body kept event step = ⊥
 
 -- what a step takes within a body
