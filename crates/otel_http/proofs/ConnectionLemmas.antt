@@ -12,22 +12,22 @@ use Rattle.otel_http.specs.Serving.{Serving, TracedState, TracesRequest, ended_s
 use Rattle.otel_http.proofs.ServingLemmas.{served_as}
 
 module _ {V P S G C : Type 0} (calls : Ghosts P) (sampler : sampling.Ghosts S) (ids : drawing.Ghosts G)
-    (may_tell : C → ℕ → Type 0) (serves : Serving V P S G) where
+    (tells : C → ℕ → C → Type 0) (serves : Serving V P S G C) where
   -- a call, its span, if there was memory for one, and what it did
   record OneAnswered (old : TracedState V P S G C) (call : Call) (new : TracedState V P S G C) : Type 0 where
     span : Option PlainSpan
-    answers : AnswersOne calls sampler ids may_tell serves old call span new
+    answers : AnswersOne calls sampler ids tells serves old call span new
 
   one_answered : (old : TracedState V P S G C) (call : Call) (new : TracedState V P S G C)
-      → TracesRequest calls sampler ids may_tell serves old call.0 call.1 new → OneAnswered old call new
+      → TracesRequest calls sampler ids tells serves old call.0 call.1 new → OneAnswered old call new
   one_answered old call new (inl (cx, is, inl served)) = record {
-    span = Some (ended_span calls sampler ids may_tell serves served);
+    span = Some (ended_span calls sampler ids tells serves served);
     answers = record {
       cx = cx;
       is_context = is;
       served = served;
       span_is = refl;
-      is_server = served_as calls sampler ids may_tell serves old new call.0 cx call.1 served;
+      is_server = served_as calls sampler ids tells serves old new call.0 cx call.1 served;
       untraced = ap (λ (t : TracedState V P S G C). t.untraced) served.inside.rest;
     };
   }
@@ -51,7 +51,7 @@ module _ {V P S G C : Type 0} (calls : Ghosts P) (sampler : sampling.Ghosts S) (
   Grows old new = old.untraced ≤ 2 ^ 64 - 1 → (old.untraced ≤ new.untraced) × (new.untraced ≤ 2 ^ 64 - 1)
 
   grows_one : (old : TracedState V P S G C) (call : Call) (span : Option PlainSpan) (new : TracedState V P S G C)
-      → AnswersOne calls sampler ids may_tell serves old call span new → Grows old new
+      → AnswersOne calls sampler ids tells serves old call span new → Grows old new
   grows_one old call None new h most =
       let least : old.untraced ≤ min (old.untraced + 1) (2 ^ 64 - 1) = le-min (omega arith) most in
       let greatest : min (old.untraced + 1) (2 ^ 64 - 1) ≤ 2 ^ 64 - 1 = min-le_right (old.untraced + 1) (2 ^ 64 - 1) in
@@ -59,7 +59,7 @@ module _ {V P S G C : Type 0} (calls : Ghosts P) (sampler : sampling.Ghosts S) (
   grows_one old call (Some span) new h most = (omega (arith, h.untraced), omega (arith, h.untraced, most))
 
   grows_all : (old : TracedState V P S G C) (answered : List Answered) (new : TracedState V P S G C)
-      → AnswersAll calls sampler ids may_tell serves old answered new → Grows old new
+      → AnswersAll calls sampler ids tells serves old answered new → Grows old new
   grows_all old [] new h most = rw h (omega arith, most)
   grows_all old (a ∷ more) new (next, one, rest) most =
       let first = grows_one old a.call a.span next one most in
@@ -68,7 +68,7 @@ module _ {V P S G C : Type 0} (calls : Ghosts P) (sampler : sampling.Ghosts S) (
 
   -- where the count stays there was a span
   one_traced : (old : TracedState V P S G C) (call : Call) (span : Option PlainSpan) (new : TracedState V P S G C)
-      → AnswersOne calls sampler ids may_tell serves old call span new → old.untraced < 2 ^ 64 - 1
+      → AnswersOne calls sampler ids tells serves old call span new → old.untraced < 2 ^ 64 - 1
       → new.untraced ≤ old.untraced → IsSome span × (new.untraced ≡ old.untraced)
   one_traced old call None new h most stays =
       let one : min (old.untraced + 1) (2 ^ 64 - 1) ≡ old.untraced + 1 = min-eq_left (omega (arith, most)) in
@@ -77,7 +77,7 @@ module _ {V P S G C : Type 0} (calls : Ghosts P) (sampler : sampling.Ghosts S) (
 
   -- where it stays over all, each has its span
   all_traced : (old : TracedState V P S G C) (answered : List Answered) (new : TracedState V P S G C)
-      → AnswersAll calls sampler ids may_tell serves old answered new → old.untraced < 2 ^ 64 - 1
+      → AnswersAll calls sampler ids tells serves old answered new → old.untraced < 2 ^ 64 - 1
       → new.untraced ≡ old.untraced → All (λ a. IsSome a.span) answered
   all_traced old [] new h most same = All-nil (λ a. IsSome a.span)
   all_traced old (a ∷ more) new (next, one, rest) most same =
@@ -88,8 +88,8 @@ module _ {V P S G C : Type 0} (calls : Ghosts P) (sampler : sampling.Ghosts S) (
       (all_traced next more new rest (omega (arith, most, has.1)) (same ∙ sym has.1))
 
   pub answers_calls : (old new : TracedState V P S G C) (answered : List Call)
-      → Chain (TracesRequest calls sampler ids may_tell serves) old answered new
-      → AnswersCalls calls sampler ids may_tell serves old answered new
+      → Chain (TracesRequest calls sampler ids tells serves) old answered new
+      → AnswersCalls calls sampler ids tells serves old answered new
   answers_calls old new answered h =
       let found = answers_each old new answered h in
       record {
@@ -100,9 +100,9 @@ module _ {V P S G C : Type 0} (calls : Ghosts P) (sampler : sampling.Ghosts S) (
       }
     where
       answers_each : (old new : TracedState V P S G C) (answered : List Call)
-          → Chain (TracesRequest calls sampler ids may_tell serves) old answered new
+          → Chain (TracesRequest calls sampler ids tells serves) old answered new
           → (found : List Answered) × (map (λ a. a.call) found ≡ answered)
-          × AnswersAll calls sampler ids may_tell serves old found new
+          × AnswersAll calls sampler ids tells serves old found new
       answers_each old new [] h = ([], refl, h)
       answers_each old new (call ∷ more) (next, first, rest) =
           let one = one_answered old call next first in

@@ -77,14 +77,14 @@ module _ {P S G : Type 0} (calls : Ghosts P) (sampler : sampling.Ghosts S) (ids 
 
 -- what a served request's span records
 pub served_as : {V P S G C : Type 0} (calls : Ghosts P) (sampler : sampling.Ghosts S) (ids : drawing.Ghosts G)
-    (may_tell : C → _ → Type 0) (serves : Serving V P S G) (old new : TracedState V P S G C) (request : Request (List _))
+    (tells : C → _ → C → Type 0) (serves : Serving V P S G C) (old new : TracedState V P S G C) (request : Request (List _))
     (cx : PlainContext) (response : Response)
-    → (served : ServesTraced calls sampler ids may_tell serves old request cx response new)
-    → IfSome (ended_span calls sampler ids may_tell serves served).recorded (IsServerSpan cx)
-served_as calls sampler ids may_tell serves old new request cx response served =
+    → (served : ServesTraced calls sampler ids tells serves old request cx response new)
+    → IfSome (ended_span calls sampler ids tells serves served).recorded (IsServerSpan cx)
+served_as calls sampler ids tells serves old new request cx response served =
     let answers = served.starts.2 in
     let edited = served.inside.serves_once.edited in
     let kind : served.builder.span_kind ≡ Some Server = ap (λ (b : PlainSpanBuilder). b.span_kind) served.is_builder.is in
-    let begins = begins_as calls sampler ids old.provider (start_request old.scope served.builder cx served.starts.0) answers.0 served.started kind answers.2 in
+    let begins = begins_as calls sampler ids old.provider (start_request old.scope served.builder cx served.starts.0) answers.0 served.started.provider kind answers.2 in
     rw (edited.1, answers.1)
     (records_as cx answers.0 edited.0 (response_edits FIRST_FAILURE served.inside.whole response.status) begins)

@@ -16,21 +16,21 @@ pub record Answered : Type 0 where
   pub span : Option PlainSpan
 
 module _ {V P S G C : Type 0} (calls : Ghosts P) (sampler : sampling.Ghosts S) (ids : drawing.Ghosts G)
-    (may_tell : C → ℕ → Type 0) (serves : Serving V P S G) where
+    (tells : C → ℕ → C → Type 0) (serves : Serving V P S G C) where
   -- a request was served inside this span, which then ended: it is a server's span, below the span of the context that
   -- the request's headers carry
   pub record AnswersInside (old : TracedState V P S G C) (call : Call) (span : PlainSpan) (new : TracedState V P S G C)
       : Type 0 where
     pub cx : PlainContext
     pub is_context : IsContextOf (head_of call.0).headers cx
-    pub served : ServesTraced calls sampler ids may_tell serves old call.0 cx call.1 new
-    pub span_is : span ≡ ended_span calls sampler ids may_tell serves served
+    pub served : ServesTraced calls sampler ids tells serves old call.0 cx call.1 new
+    pub span_is : span ≡ ended_span calls sampler ids tells serves served
     pub is_server : IfSome span.recorded (IsServerSpan cx)
     pub untraced : new.untraced ≡ old.untraced
 
   -- a request was served without a span, which counts
   pub record AnswersOutside (old : TracedState V P S G C) (call : Call) (new : TracedState V P S G C) : Type 0 where
-    pub traces : TracesRequest calls sampler ids may_tell serves old call.0 call.1 new
+    pub traces : TracesRequest calls sampler ids tells serves old call.0 call.1 new
     pub untraced : new.untraced ≡ one_more old.untraced
 
   -- either way

@@ -5,5 +5,6 @@ pub mod Extraction
 pub mod Fields
 pub mod Headers
 pub mod Injection
+pub mod Servers
 pub mod Serving
 pub mod SetHeader

@@ -16,43 +16,45 @@ use Rattle.otel_export.specs.PlainSpanData.{PlainSpanData}
 use Rattle.otel_sampling.specs.declared.trace.sampler.ShouldSample as sampling
 use Rattle.otel_sampling.specs.declared.trace.id_generator.GivesIds as drawing
 use Rattle.otel_pipeline.specs.Ending.{EndIsInfallible}
-use Rattle.otel_pipeline.specs.InSpan.{AnswersNow, Beginning, EndsOrDrops, StartsAtMost, active_in, beginning}
+use Rattle.otel_pipeline.specs.InSpan.{AnswersNow, Beginning, Clocked, DrawsNow, EndsOrDrops, active_in, beginning, clocked}
 use Rattle.otel_pipeline.specs.Provider.{ProviderState}
 use Rattle.otel_pipeline.specs.SpanHistory.{Edit, IsEdited, PlainSpan, after, set_attribute, set_status}
 use Rattle.otel_pipeline.specs.declared.trace.span_processor.SpanProcessor.{Ghosts}
 use Rattle.otel_http.specs.declared.traced.TheConstants.{FIRST_FAILURE}
 use Rattle.otel_http.specs.Contexts.{IsContextOf}
-use Rattle.otel_http.specs.Conventions.{HasRequestAttributes, method_name, response_attributes}
+use Rattle.otel_http.specs.Conventions.{HasClientAttributes, HasServerAttributes, method_name, response_attributes}
 
--- what a service is lent: the span of the request, and the provider
-pub record Lent (P S G : Type 0) : Type 0 where
+-- what a service is lent: the span of the request, the provider, and the clock
+pub record Lent (P S G C : Type 0) : Type 0 where
   pub span : PlainSpan
   pub provider : ProviderState P S G
+  pub clock : C
 
-abbrev pub lent : {P S G : Type 0} → PlainSpan → ProviderState P S G → Lent P S G
-lent span provider = record { span = span; provider = provider }
+abbrev pub lent : {P S G C : Type 0} → PlainSpan → ProviderState P S G → C → Lent P S G C
+lent span provider clock = record { span = span; provider = provider; clock = clock }
 
 -- what a service does with a request in a context: what it was lent, what it answers and responds, what it leaves of
 -- what it was lent, and itself after
-abbrev pub Serving : (V P S G : Type 0) → Type 1
-Serving V P S G = V → Request (List ℕ) → PlainContext → Lent P S G → Result (Unit {0}) AllocError → Response
-    → Lent P S G → V → Type 0
+abbrev pub Serving : (V P S G C : Type 0) → Type 1
+Serving V P S G C = V → Request (List ℕ) → PlainContext → Lent P S G C → Result (Unit {0}) AllocError → Response
+    → Lent P S G C → V → Type 0
 
 -- what the builder of a request's span has: the method as its name, a kind, and attributes
-pub record IsBuilder (kind : SpanKind) (keeps_query : Bool) (head : Parts) (builder : PlainSpanBuilder) : Type 0 where
+pub record IsBuilder (kind : SpanKind) (Has : List PlainKeyValue → Type 0) (head : Parts) (builder : PlainSpanBuilder)
+    : Type 0 where
   pub attributes : List PlainKeyValue
-  pub has : HasRequestAttributes keeps_query head attributes
+  pub has : Has attributes
   pub is : builder ≡ record (named_builder (method_name head.method)) {
     span_kind = Some kind;
     attributes = Some attributes;
   }
 
--- of a request that is served, and of one to another service
-abbrev pub IsServerBuilder : Bool → Parts → PlainSpanBuilder → Type 0
-IsServerBuilder = IsBuilder Server
+-- of a request that is served, of this scheme where its target names none, and of one to another service
+abbrev pub IsServerBuilder : List ℕ → Bool → Parts → PlainSpanBuilder → Type 0
+IsServerBuilder scheme keeps_query head = IsBuilder Server (HasServerAttributes scheme keeps_query head) head
 
 abbrev pub IsClientBuilder : Parts → PlainSpanBuilder → Type 0
-IsClientBuilder = IsBuilder Client false
+IsClientBuilder head = IsBuilder Client (HasClientAttributes head) head
 
 -- the status of a span, by that of the response
 abbrev pub status_edits : ℕ → ℕ → List Edit
@@ -68,15 +70,24 @@ response_edits first_error whole status =
 abbrev pub one_more : ℕ → ℕ
 one_more count = min (count + 1) (2 ^ 64 - 1)
 
+module _ {P : Type 0} (calls : Ghosts P) where
+  -- a span ended at a moment; where it was not told all, or there was no memory to end it, that counts
+  pub record EndsCounted {S G : Type 0} (whole : Bool) (span : PlainSpan) (moment : ℕ) (old : ProviderState P S G)
+      (unfinished : ℕ) (new : ProviderState P S G) (unfinished' : ℕ) : Type 0 where
+    pub ended : Result ℕ AllocError
+    pub ends : EndsOrDrops calls old span moment ended new
+    pub free : EndIsInfallible span old → IsOk ended
+    pub counts : unfinished' ≡ (if whole && is_ok ended then unfinished else one_more unfinished)
+
 -- what answers a request: the service's response, and where the service had no memory a 500 without a body
 abbrev pub Responds : Result (Unit {0}) AllocError → Response → Response → Type 0
 Responds (Ok _) given response = response ≡ given
 Responds (Err _) given response = IsResponse 500 [] [] response
 
-module _ {V P S G : Type 0} (serves : Serving V P S G) where
+module _ {V P S G C : Type 0} (serves : Serving V P S G C) where
   -- the service was asked once, with what it was lent, and its answer is the response
-  pub record ServesOnce (old : V) (request : Request (List ℕ)) (cx : PlainContext) (given : Lent P S G)
-      (response : Response) (left : Lent P S G) (new : V) : Type 0 where
+  pub record ServesOnce (old : V) (request : Request (List ℕ)) (cx : PlainContext) (given : Lent P S G C)
+      (response : Response) (left : Lent P S G C) (new : V) : Type 0 where
     pub answer : Result (Unit {0}) AllocError
     pub own : Response
     pub served : serves old request cx given answer own left new
@@ -90,60 +101,72 @@ pub record TracedState (V P S G C : Type 0) : Type 0 where
   pub provider : ProviderState P S G
   pub scope : PlainScope
   pub clock : C
+  pub scheme : List ℕ
   pub keeps_query : Bool
   pub untraced : ℕ
   pub unfinished : ℕ
 
 -- where the span of a request begins
 abbrev pub beginning_of : {V P S G C : Type 0} → TracedState V P S G C → PlainSpanBuilder → PlainContext
-    → Beginning P S G
-beginning_of old builder cx = beginning old.scope builder cx old.provider
+    → Beginning P S G C
+beginning_of old builder cx = beginning old.scope builder cx old.provider old.clock
 
-module _ {V P S G C : Type 0} (serves : Serving V P S G) where
+-- the same with the provider and the clock that are left
+abbrev pub with_clocked : {V P S G C : Type 0} → TracedState V P S G C → Clocked (ProviderState P S G) C
+    → TracedState V P S G C
+with_clocked old at = record old { provider = at.provider; clock = at.clock }
+
+module _ {V P S G C : Type 0} (serves : Serving V P S G C) where
   -- a request was served without a span, which counts
   pub record ServesWithout (old : TracedState V P S G C) (request : Request (List ℕ)) (cx : PlainContext)
       (response : Response) (new : TracedState V P S G C) : Type 0 where
     pub span : PlainSpan
     pub silent : IsNone span.recorded
-    pub left : Lent P S G
-    pub serves_once : ServesOnce serves old.service request cx (lent span old.provider) response left new.service
+    pub left : Lent P S G C
+    pub serves_once : ServesOnce serves old.service request cx (lent span old.provider old.clock) response left
+        new.service
     pub provider : new.provider ≡ left.provider
+    pub clock : new.clock ≡ left.clock
     pub rest : new ≡ record old {
       service = new.service;
       provider = new.provider;
+      clock = new.clock;
       untraced = one_more old.untraced;
     }
 
-module _ {V P S G C : Type 0} (calls : Ghosts P) (may_tell : C → ℕ → Type 0) (serves : Serving V P S G) where
-  -- a request was served inside a span, in this context; the span was told of the response, and ended. What it was told
-  -- and where it ended is lost only where there was no memory, and then counts
+module _ {V P S G C : Type 0} (calls : Ghosts P) (tells : C → ℕ → C → Type 0) (serves : Serving V P S G C) where
+  -- a request was served inside a span, in this context; the span was told of the response, and ended at a moment that
+  -- the clock told after the service had answered. What it was told and where it ended is lost only where there was no
+  -- memory, and then counts
   pub record ServesInside (span : PlainSpan) (old : TracedState V P S G C) (request : Request (List ℕ))
       (cx : PlainContext) (response : Response) (new : TracedState V P S G C) : Type 0 where
-    pub left : Lent P S G
-    pub serves_once : ServesOnce serves old.service request cx (lent span old.provider) response left new.service
+    pub left : Lent P S G C
+    pub serves_once : ServesOnce serves old.service request cx (lent span old.provider old.clock) response left
+        new.service
     pub whole : Bool
     pub end : ℕ
-    pub told : may_tell old.clock end
-    pub ended : Result ℕ AllocError
-    pub ends : EndsOrDrops calls left.provider
-        (after (response_edits FIRST_FAILURE whole response.status) left.span) end ended new.provider
-    pub free : EndIsInfallible (after (response_edits FIRST_FAILURE whole response.status) left.span) left.provider
-        → IsOk ended
-    pub unfinished : new.unfinished ≡ (if whole && is_ok ended then old.unfinished else one_more old.unfinished)
-    pub rest : new ≡ record old { service = new.service; provider = new.provider; unfinished = new.unfinished }
+    pub told : tells left.clock end new.clock
+    pub ends : EndsCounted calls whole (after (response_edits FIRST_FAILURE whole response.status) left.span) end
+        left.provider old.unfinished new.provider new.unfinished
+    pub rest : new ≡ record old {
+      service = new.service;
+      provider = new.provider;
+      clock = new.clock;
+      unfinished = new.unfinished;
+    }
 
 module _ {V P S G C : Type 0} (calls : Ghosts P) (sampler : sampling.Ghosts S) (ids : drawing.Ghosts G)
-    (may_tell : C → ℕ → Type 0) (serves : Serving V P S G) where
+    (tells : C → ℕ → C → Type 0) (serves : Serving V P S G C) where
   -- a request was served inside a span that started in this context
   pub record ServesTraced (old : TracedState V P S G C) (request : Request (List ℕ)) (cx : PlainContext)
       (response : Response) (new : TracedState V P S G C) : Type 0 where
     pub builder : PlainSpanBuilder
-    pub is_builder : IsServerBuilder old.keeps_query (head_of request) builder
+    pub is_builder : IsServerBuilder old.scheme old.keeps_query (head_of request) builder
     pub span : PlainSpan
-    pub started : ProviderState P S G
-    pub starts : AnswersNow calls sampler ids (may_tell old.clock) (beginning_of old builder cx) (Ok span) started
-    pub inside : ServesInside calls may_tell serves span (record old { provider = started }) request (active_in cx span)
-        response new
+    pub started : Clocked (ProviderState P S G) C
+    pub starts : AnswersNow calls sampler ids tells (beginning_of old builder cx) (Ok span) started
+    pub inside : ServesInside calls tells serves span (with_clocked old started) request (active_in cx span) response
+        new
 
   -- the span of such a request as it ends
   abbrev pub ended_span : {old : TracedState V P S G C} {request : Request (List ℕ)} {cx : PlainContext}
@@ -151,19 +174,20 @@ module _ {V P S G C : Type 0} (calls : Ghosts P) (sampler : sampling.Ghosts S) (
   ended_span {response = response} served =
       after (response_edits FIRST_FAILURE served.inside.whole response.status) served.inside.left.span
 
-  -- a start was tried at most
-  abbrev pub TriesStart : TracedState V P S G C → Request (List ℕ) → PlainContext → ProviderState P S G → Type 0
+  -- a start was tried at most, of which no processor was told
+  abbrev pub TriesStart : TracedState V P S G C → Request (List ℕ) → PlainContext
+      → Clocked (ProviderState P S G) C → Type 0
   TriesStart old request cx between =
-      (between ≡ old.provider)
-      ⊎ ((builder : PlainSpanBuilder) × IsServerBuilder old.keeps_query (head_of request) builder
-      × StartsAtMost calls sampler ids (may_tell old.clock) (beginning_of old builder cx) between)
+      (between ≡ clocked old.provider old.clock)
+      ⊎ ((builder : PlainSpanBuilder) × IsServerBuilder old.scheme old.keeps_query (head_of request) builder
+      × DrawsNow ids tells (beginning_of old builder cx) between)
 
   -- a request was served without a span, since there was no memory for one
   pub record ServesUntraced (old : TracedState V P S G C) (request : Request (List ℕ)) (cx : PlainContext)
       (response : Response) (new : TracedState V P S G C) : Type 0 where
-    pub between : ProviderState P S G
+    pub between : Clocked (ProviderState P S G) C
     pub tries : TriesStart old request cx between
-    pub without : ServesWithout serves (record old { provider = between }) request cx response new
+    pub without : ServesWithout serves (with_clocked old between) request cx response new
 
   -- a request was served in a context, traced or not
   abbrev pub ServesIn : TracedState V P S G C → Request (List ℕ) → PlainContext → Response → TracedState V P S G C

@@ -8,7 +8,7 @@ ghost use Rattle.otel_http.specs.Injection.{carrier_answer};
 ghost use Rattle.otel_http.specs.Serving.{IsClientBuilder, response_edits};
 
 use crate::SetHeaderError;
-use crate::conventions::{method_name, request_attributes};
+use crate::conventions::{client_attributes, method_name};
 use crate::propagation::inject_context;
 use crate::traced::conclude;
 use http::{Request, StatusCode};
@@ -40,7 +40,7 @@ pub fn inject_request<B>(
 pub fn client_span<B>(alloc: Global, request: &Request<B>) -> Result<SpanBuilder, AllocError>
     ensures { IfOk result (IsClientBuilder (head_of request.now)) }
 {
-    let attributes = request_attributes(alloc, request, false)?;
+    let attributes = client_attributes(alloc, request)?;
     let name = String::from_str(alloc, method_name(request.method()))?;
     Ok(
         SpanBuilder::from_name(name)

@@ -1,26 +1,33 @@
 //! The attributes of spans of HTTP (OpenTelemetry semantic conventions, "HTTP spans", stable).
 
-ghost use Rattle.std.specs.Prelude.{◌≡◌, ◌++◌, ◌∷◌, IfOk, OnErr, OnOk, option_copied, option_map, string_bytes};
+ghost use Rattle.std.specs.Prelude.{◌≡◌, ◌++◌, ◌∷◌, ℕ, IfOk, List, None, OnErr, OnOk, Option, codes};
+ghost use Rattle.std.specs.Prelude.{if◌then◌else◌, option_copied, option_map, string_bytes, unwrap_or};
+ghost use Rattle.http_uri.specs.Uri.{uri_query, uri_scheme};
 ghost use Rattle.http.specs.Request.{head_of};
 ghost use Rattle.otel_pipeline.specs.SpanHistory.{IsEdited, after};
-ghost use Rattle.otel_http.specs.Conventions.{text_attribute};
-ghost use Rattle.otel_http.specs.Conventions.{HasRequestAttributes, IsHostIn, IsHostOf, attribute_if, is_known_method};
-ghost use Rattle.otel_http.specs.Conventions.{method_name, method_value, response_attributes, route_edits, space};
+ghost use Rattle.otel_http.specs.Conventions.{HasClientAttributes, HasServerAttributes, attribute_if, is_known_method};
+ghost use Rattle.otel_http.specs.Conventions.{method_attributes, method_name, method_value, original_method};
+ghost use Rattle.otel_http.specs.Conventions.{response_attributes, route_edits, space, target_attributes};
+ghost use Rattle.otel_http.specs.Servers.{IsFullUrl, text_attribute};
 
+use crate::server::{full_url, push_server, scheme_port};
 use http::{Method, Request, StatusCode};
-use http_header::{HOST, HeaderValue};
-use http_uri::{Authority, UriError};
+use http_uri::Uri;
 use opentelemetry::{Key, KeyValue, Value};
 use otel_pipeline::trace::Span;
 use std::alloc::{AllocError, Global};
 
 const METHOD: &str = "http.request.method";
 
+const ORIGINAL: &str = "http.request.method_original";
+
+const SCHEME: &str = "url.scheme";
+
 const PATH: &str = "url.path";
 
 const QUERY: &str = "url.query";
 
-const ADDRESS: &str = "server.address";
+const FULL_URL: &str = "url.full";
 
 const STATUS: &str = "http.response.status_code";
 
@@ -57,6 +64,17 @@ fn method_value(method: &Method) -> &str
     }
 }
 
+/// A method that the conventions do not know, as it came.
+fn original_method(method: &Method) -> Option<&str>
+    ensures { option_copied result ≡ original_method method.now }
+{
+    if is_known_method(method) {
+        None
+    } else {
+        Some(method.as_str())
+    }
+}
+
 /// An attribute with a copy of a text.
 pub(crate) fn text_attribute(
     alloc: Global,
@@ -85,31 +103,98 @@ fn push_text(
     Ok(())
 }
 
-/// What the span of a request has from its start.
-pub(crate) fn request_attributes<B>(
+/// Pushes what a span has of the method of its request.
+fn push_method(
+    attributes: &mut Vec<KeyValue>,
+    alloc: Global,
+    method: &Method,
+) -> Result<(), AllocError>
+    ensures { OnOk result (attributes.new.items ≡ attributes.old.items ++ method_attributes method.now) }
+{
+    attributes.push(text_attribute(alloc, METHOD, method_value(method))?)?;
+    push_text(attributes, alloc, ORIGINAL, original_method(method))?;
+    Ok(())
+}
+
+/// What the span of a request that is served has from its start. Where the target names no scheme, it is this one.
+pub(crate) fn server_attributes<B>(
     alloc: Global,
     request: &Request<B>,
+    scheme: &str,
     keeps_query: bool,
 ) -> Result<Vec<KeyValue>, AllocError>
-    ensures { IfOk result (λ attributes. HasRequestAttributes keeps_query (head_of request.now) attributes.items) }
+    ensures { IfOk result (λ attributes. HasServerAttributes scheme.now keeps_query (head_of request.now)
+        attributes.items) }
 {
-    let host = host_of(alloc, request)?;
-    let query = if keeps_query {
-        request.uri().query()
-    } else {
-        None
-    };
     let mut attributes = Vec::new(alloc);
-    push_text(
+    push_method(&mut attributes, alloc, request.method())?;
+    push_target(&mut attributes, alloc, request, scheme, keeps_query)?;
+    push_server(&mut attributes, alloc, request, None)?;
+    Ok(attributes)
+}
+
+/// Pushes what a span has of the target of a request that is served.
+fn push_target<B>(
+    attributes: &mut Vec<KeyValue>,
+    alloc: Global,
+    request: &Request<B>,
+    scheme: &str,
+    keeps_query: bool,
+) -> Result<(), AllocError>
+    ensures { OnOk result (attributes.new.items
+        ≡ attributes.old.items ++ target_attributes scheme.now keeps_query (head_of request.now)) }
+{
+    let uri = request.uri();
+    let query = query_of(uri, keeps_query);
+    attributes.push(text_attribute(alloc, SCHEME, scheme_of(uri, scheme))?)?;
+    attributes.push(text_attribute(alloc, PATH, uri.path())?)?;
+    push_text(attributes, alloc, QUERY, query)?;
+    Ok(())
+}
+
+/// The scheme of a target; where it names none, this one.
+fn scheme_of<'a>(uri: &'a Uri, scheme: &'a str) -> &'a str
+    ensures { result.now ≡ unwrap_or (uri_scheme uri.now) scheme.now }
+{
+    match uri.scheme_str() {
+        Some(own) => own,
+        None => scheme,
+    }
+}
+
+/// The query of a target, where it is asked for.
+fn query_of(uri: &Uri, keeps_query: bool) -> Option<&str>
+    ensures { option_copied result ≡ (if keeps_query then uri_query uri.now else None) }
+{
+    if keeps_query { uri.query() } else { None }
+}
+
+/// What the span of a request to another service has from its start.
+pub(crate) fn client_attributes<B>(
+    alloc: Global,
+    request: &Request<B>,
+) -> Result<Vec<KeyValue>, AllocError>
+    ensures { IfOk result (λ attributes. HasClientAttributes (head_of request.now) attributes.items) }
+{
+    let mut attributes = Vec::new(alloc);
+    push_method(&mut attributes, alloc, request.method())?;
+    push_url(&mut attributes, alloc, request.uri())?;
+    push_server(
         &mut attributes,
         alloc,
-        METHOD,
-        Some(method_value(request.method())),
+        request,
+        scheme_port(request.uri().scheme_str()),
     )?;
-    push_text(&mut attributes, alloc, PATH, Some(request.uri().path()))?;
-    push_text(&mut attributes, alloc, QUERY, query)?;
-    push_text(&mut attributes, alloc, ADDRESS, text_in(&host))?;
     Ok(attributes)
+}
+
+/// Pushes the URL of a target in absolute form.
+fn push_url(attributes: &mut Vec<KeyValue>, alloc: Global, uri: &Uri) -> Result<(), AllocError>
+    ensures { OnOk result ((url : Option (List ℕ)) × IsFullUrl uri.now url
+        × (attributes.new.items ≡ attributes.old.items ++ attribute_if (codes "url.full") url)) }
+{
+    let url = full_url(alloc, uri)?;
+    push_text(attributes, alloc, FULL_URL, text_in(&url))
 }
 
 /// The text of a string, if there is one.
@@ -119,30 +204,6 @@ fn text_in(text: &Option<String>) -> Option<&str>
     match text {
         Some(text) => Some(text.as_str()),
         None => None,
-    }
-}
-
-/// The host that a request names.
-fn host_of<B>(alloc: Global, request: &Request<B>) -> Result<Option<String>, AllocError>
-    ensures { IfOk result (λ host. IsHostOf (head_of request.now) (option_map (λ t. string_bytes t) host)) }
-{
-    if let Some(host) = request.uri().host() {
-        return Ok(Some(String::from_str(alloc, host)?));
-    }
-    match request.headers().get(HOST) {
-        Some(value) => host_in(alloc, value),
-        None => Ok(None),
-    }
-}
-
-/// The host that a value of `Host` names, without its port.
-fn host_in(alloc: Global, value: &HeaderValue) -> Result<Option<String>, AllocError>
-    ensures { IfOk result (λ host. IsHostIn value.now (option_map (λ t. string_bytes t) host)) }
-{
-    match Authority::from_bytes(alloc, value.as_bytes()) {
-        Ok(authority) => Ok(Some(String::from_str(alloc, authority.host())?)),
-        Err(UriError::Invalid(_)) => Ok(None),
-        Err(UriError::OutOfMemory) => Err(AllocError),
     }
 }
 

@@ -57,16 +57,16 @@ pub fn two_traceparents_say_nothing()
 /// What a span records of a request says whose it is: it is a server's span, below the span of the context that the
 /// request's headers carry, and of that one's trace.
 pub fn served_spans_follow_their_headers<
-    V: TracedService<P, S, G>,
+    V: TracedService<P, S, G, C>,
     P: SpanProcessor,
     S: ShouldSample,
     G: GivesIds,
     C: Now,
 >()
     ensures { (old new : TracedState V P S G C) (request : Request (List ℕ)) (cx : PlainContext) (response : Response)
-        → (served : ServesTraced P.SpanProcessor S.ShouldSample G.GivesIds C.may_tell V.serves old request cx response
+        → (served : ServesTraced P.SpanProcessor S.ShouldSample G.GivesIds C.tells V.serves old request cx response
         new)
-        → IfSome (ended_span P.SpanProcessor S.ShouldSample G.GivesIds C.may_tell V.serves served).recorded
+        → IfSome (ended_span P.SpanProcessor S.ShouldSample G.GivesIds C.tells V.serves served).recorded
         (IsServerSpan cx) }
 {}
 
@@ -74,13 +74,13 @@ pub fn served_spans_follow_their_headers<
 /// it and before the next one came, and no span where there was no memory for one, which counts. That these are the
 /// requests in the bytes that the connection received is what `http_server` says of it.
 pub fn each_answer_ends_a_span<
-    V: TracedService<P, S, G>,
+    V: TracedService<P, S, G, C>,
     P: SpanProcessor,
     S: ShouldSample,
     G: GivesIds,
     C: Now,
 >()
     ensures { (old new : TracedState V P S G C) (calls : List Call)
-        → Chain (TracesRequest P.SpanProcessor S.ShouldSample G.GivesIds C.may_tell V.serves) old calls new
-        → AnswersCalls P.SpanProcessor S.ShouldSample G.GivesIds C.may_tell V.serves old calls new }
+        → Chain (TracesRequest P.SpanProcessor S.ShouldSample G.GivesIds C.tells V.serves) old calls new
+        → AnswersCalls P.SpanProcessor S.ShouldSample G.GivesIds C.tells V.serves old calls new }
 {}

@@ -10,10 +10,11 @@ mod header_extractor;
 mod header_injector;
 pub mod laws;
 mod propagation;
+mod server;
 mod traced;
 mod traced_service;
 
-pub use begun::{Begun, begin_span, end_or_drop};
+pub use begun::{Begun, begin_span, end_counted};
 pub use client::{client_span, inject_request, record_response};
 pub use conventions::record_route;
 pub use header_extractor::HeaderExtractor;

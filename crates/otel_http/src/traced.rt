@@ -1,15 +1,15 @@
 //! A service around a traced one: it serves each request inside a span of its own.
 
-ghost use Rattle.std.specs.Prelude.{◌≡◌, ◌&&◌, false, true, IfOk, IsNone, IsOk, Ok, OnErr, OnOk, if◌then◌else◌, is_ok};
+ghost use Rattle.std.specs.Prelude.{◌≡◌, false, true, IfOk, IsNone, IsOk, Ok, OnErr, OnOk, codes, is_ok};
 ghost use Rattle.http.specs.Request.{head_of};
 ghost use Rattle.http_server.specs.Response.{IsBlank};
 ghost use Rattle.otel_pipeline.specs.SpanHistory.{after};
 ghost use Rattle.otel_http.specs.Serving.{IsServerBuilder, ServesIn, ServesInside, ServesOnce, ServesWithout, TracesRequest};
-ghost use Rattle.otel_http.specs.Serving.{lent, one_more, response_edits};
+ghost use Rattle.otel_http.specs.Serving.{lent, response_edits};
 
 use crate::TracedService;
-use crate::begun::{Begun, begin_span, end_or_drop};
-use crate::conventions::{method_name, request_attributes, response_attributes};
+use crate::begun::{Begun, begin_span, end_counted};
+use crate::conventions::{method_name, response_attributes, server_attributes};
 use crate::propagation::extract_context;
 use bytes::Bytes;
 use http::{Request, StatusCode};
@@ -31,6 +31,7 @@ pub struct Traced<V, P, S, G, C> {
     provider: ProviderOf<P, S, G>,
     tracer: SdkTracer,
     clock: C,
+    scheme: &'static str,
     keeps_query: bool,
     untraced: u64,
     unfinished: u64,
@@ -46,6 +47,7 @@ impl<V, P, S, G, C> Model for Traced<V, P, S, G, C> {
       provider = traced.provider;
       scope = traced.tracer;
       clock = traced.clock;
+      scheme = traced.scheme.now;
       keeps_query = traced.keeps_query;
       untraced = traced.untraced;
       unfinished = traced.unfinished;
@@ -58,7 +60,7 @@ impl<V, P, S, G, C> Traced<V, P, S, G, C> {
     ghost use Rattle.otel_pipeline.specs.contracts.trace.provider.ProviderOf.{the_row as provider_row};
 
     /// A service whose requests start spans at this provider, under the scope of this tracer, at moments that the clock
-    /// tells.
+    /// tells. They are requests of `http`.
     pub fn new(
         alloc: Global,
         service: V,
@@ -71,6 +73,7 @@ impl<V, P, S, G, C> Traced<V, P, S, G, C> {
           provider = provider;
           scope = tracer;
           clock = clock;
+          scheme = codes "http";
           keeps_query = false;
           untraced = 0;
           unfinished = 0;
@@ -82,10 +85,19 @@ impl<V, P, S, G, C> Traced<V, P, S, G, C> {
             provider,
             tracer,
             clock,
+            scheme: "http",
             keeps_query: false,
             untraced: 0,
             unfinished: 0,
         }
+    }
+
+    /// The same for requests of another scheme, as `https`. One whose target names its scheme is of that one.
+    pub fn with_url_scheme(mut self, scheme: &'static str) -> Traced<V, P, S, G, C>
+        ensures { result ≡ record self { scheme = scheme.now } }
+    {
+        self.scheme = scheme;
+        self
     }
 
     /// The same with queries as attributes, which may have secrets in them.
@@ -106,6 +118,7 @@ impl<V, P, S, G, C> Traced<V, P, S, G, C> {
             provider,
             tracer: _,
             clock,
+            scheme: _,
             keeps_query: _,
             untraced: _,
             unfinished: _,
@@ -138,16 +151,16 @@ impl<V, P, S, G, C> Traced<V, P, S, G, C> {
     }
 }
 
-impl<V: TracedService<P, S, G>, P: SpanProcessor, S: ShouldSample, G: GivesIds, C: Now> Service
+impl<V: TracedService<P, S, G, C>, P: SpanProcessor, S: ShouldSample, G: GivesIds, C: Now> Service
     for Traced<V, P, S, G, C> {
     ghost use Rattle.otel_http.specs.Serving.{TracesRequest};
 
-    ghost answers = { TracesRequest P.SpanProcessor S.ShouldSample G.GivesIds C.may_tell V.serves };
+    ghost answers = { TracesRequest P.SpanProcessor S.ShouldSample G.GivesIds C.tells V.serves };
 
     /// Always `Ok`: tracing never stands in the way.
     fn call(&mut self, request: &Request<Bytes>, response: &mut Response) -> Result<(), AllocError>
         requires { IsBlank response.old }
-        ensures ok { OnOk result (TracesRequest P.SpanProcessor S.ShouldSample G.GivesIds C.may_tell V.serves
+        ensures ok { OnOk result (TracesRequest P.SpanProcessor S.ShouldSample G.GivesIds C.tells V.serves
             self.old request.now response.new self.new) }
         ensures err { OnErr result (self.new ≡ self.old) }
         ensures always { IsOk result }
@@ -160,7 +173,7 @@ impl<V: TracedService<P, S, G>, P: SpanProcessor, S: ShouldSample, G: GivesIds, 
     }
 }
 
-impl<V: TracedService<P, S, G>, P: SpanProcessor, S: ShouldSample, G: GivesIds, C: Now> Traced<
+impl<V: TracedService<P, S, G, C>, P: SpanProcessor, S: ShouldSample, G: GivesIds, C: Now> Traced<
     V,
     P,
     S,
@@ -170,14 +183,20 @@ impl<V: TracedService<P, S, G>, P: SpanProcessor, S: ShouldSample, G: GivesIds, 
     /// Serves a request in a context, inside a span where there is memory for one.
     fn serve_in(&mut self, request: &Request<Bytes>, cx: &Context, response: &mut Response)
         requires { IsBlank response.old }
-        ensures { ServesIn P.SpanProcessor S.ShouldSample G.GivesIds C.may_tell V.serves self.old request.now cx.now
+        ensures { ServesIn P.SpanProcessor S.ShouldSample G.GivesIds C.tells V.serves self.old request.now cx.now
             response.new self.new }
     {
-        let Ok(builder) = server_builder(self.alloc, request, self.keeps_query) else {
+        let Ok(builder) = server_builder(self.alloc, request, self.scheme, self.keeps_query) else {
             self.serve_without(request, cx, response);
             return;
         };
-        match begin_span(&self.tracer, builder, cx, &mut self.provider, &self.clock) {
+        match begin_span(
+            &self.tracer,
+            builder,
+            cx,
+            &mut self.provider,
+            &mut self.clock,
+        ) {
             Ok(begun) => self.serve_inside(request, begun, response),
             Err(_) => self.serve_without(request, cx, response),
         }
@@ -186,23 +205,28 @@ impl<V: TracedService<P, S, G>, P: SpanProcessor, S: ShouldSample, G: GivesIds, 
     /// Serves a request inside a span.
     fn serve_inside(&mut self, request: &Request<Bytes>, begun: Begun, response: &mut Response)
         requires { IsBlank response.old }
-        ensures { ServesInside P.SpanProcessor C.may_tell V.serves begun.span self.old request.now begun.cx response.new
+        ensures { ServesInside P.SpanProcessor C.tells V.serves begun.span self.old request.now begun.cx response.new
             self.new }
     {
         let Begun { mut span, cx } = begun;
         ask(
             &mut self.service,
             request,
-            &cx,
             &mut span,
+            &cx,
             &mut self.provider,
+            &mut self.clock,
             response,
         );
         let told = conclude(self.alloc, &mut span, response.status, FIRST_FAILURE);
-        let ended = end_or_drop(span, &mut self.provider, self.clock.now());
-        let is_told = told.is_ok();
-        let is_ended = ended.is_ok();
-        self.unfinished = counted_unless(self.unfinished, is_told, is_ended);
+        let end = self.clock.now();
+        end_counted(
+            span,
+            told.is_ok(),
+            &mut self.provider,
+            end,
+            &mut self.unfinished,
+        );
     }
 
     /// Serves a request without a span: with one that records nothing.
@@ -214,24 +238,14 @@ impl<V: TracedService<P, S, G>, P: SpanProcessor, S: ShouldSample, G: GivesIds, 
         ask(
             &mut self.service,
             request,
-            cx,
             &mut span,
+            cx,
             &mut self.provider,
+            &mut self.clock,
             response,
         );
         span.abandon();
         self.untraced = self.untraced.saturating_add(1);
-    }
-}
-
-/// A count, and one more unless a span was told of its response and ended.
-fn counted_unless(count: u64, is_told: bool, is_ended: bool) -> u64
-    ensures { result ≡ (if is_told && is_ended then count else one_more count) }
-{
-    if is_told && is_ended {
-        count
-    } else {
-        count.saturating_add(1)
     }
 }
 
@@ -258,11 +272,12 @@ fn silent_span<P: SpanProcessor, S: ShouldSample, G: GivesIds>(
 fn server_builder(
     alloc: Global,
     request: &Request<Bytes>,
+    scheme: &'static str,
     keeps_query: bool,
 ) -> Result<SpanBuilder, AllocError>
-    ensures { IfOk result (IsServerBuilder keeps_query (head_of request.now)) }
+    ensures { IfOk result (IsServerBuilder scheme.now keeps_query (head_of request.now)) }
 {
-    let attributes = request_attributes(alloc, request, keeps_query)?;
+    let attributes = server_attributes(alloc, request, scheme, keeps_query)?;
     let name = String::from_str(alloc, method_name(request.method()))?;
     Ok(
         SpanBuilder::from_name(name)
@@ -290,19 +305,20 @@ pub(crate) fn conclude(
 }
 
 /// Asks the service.
-fn ask<V: TracedService<P, S, G>, P, S, G>(
+fn ask<V: TracedService<P, S, G, C>, P, S, G, C>(
     service: &mut V,
     request: &Request<Bytes>,
-    cx: &Context,
     span: &mut Span,
+    cx: &Context,
     provider: &mut ProviderOf<P, S, G>,
+    clock: &mut C,
     response: &mut Response,
 )
     requires { IsBlank response.old }
-    ensures { ServesOnce V.serves service.old request.now cx.now (lent span.old provider.old) response.new
-        (lent span.new provider.new) service.new }
+    ensures { ServesOnce V.serves service.old request.now cx.now (lent span.old provider.old clock.old) response.new
+        (lent span.new provider.new clock.new) service.new }
 {
-    if let Err(_) = service.serve(request, cx, span, provider, response) {
+    if let Err(_) = service.serve(request, span, cx, provider, clock, response) {
         response.clear();
         response.status = StatusCode::INTERNAL_SERVER_ERROR;
     }

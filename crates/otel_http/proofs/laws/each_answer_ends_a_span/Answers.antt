@@ -2,4 +2,4 @@ use Rattle.otel_http.proofs.ConnectionLemmas.{answers_calls}
 use Rattle.otel_http.proofs.laws.each_answer_ends_a_span.Goals as goal
 
 pub returns : goal.returns
-returns g c = answers_calls g.P.SpanProcessor g.S.ShouldSample g.G.GivesIds g.C.Now.may_tell g.V.TracedService.serves
+returns g c = answers_calls g.P.SpanProcessor g.S.ShouldSample g.G.GivesIds g.C.Now.tells g.V.TracedService.serves
