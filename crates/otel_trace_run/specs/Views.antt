@@ -1,10 +1,13 @@
 -- The mode `view`: traces of any producer are drawn, out of OTLP JSON.
-use Rattle.std.specs.Prelude.{◌≡◌, ◌≢◌, ◌⊎◌, ◌≤◌, ℕ, List, [], ◌++◌, Option, codes, decimal}
+use Rattle.std.specs.Prelude.{◌≡◌, ◌≢◌, ◌⊎◌, ◌≤◌, ◌==◌, ℕ, List, [], ◌∷◌, ◌++◌, Option, Some, None, codes, decimal}
+use Rattle.std.specs.Prelude.{if◌then◌else◌}
 use Rattle.std.specs.Io.KnownBytes.{Appends, IsAtEnd}
 use Rattle.std.specs.List.{flat_map}
+use Rattle.opentelemetry.specs.Hex.{hex_text}
 use Rattle.otel_export.specs.Streams.{AppendsBeginning}
 use Rattle.otel_otlp_read.specs.Faults.{fault_text}
 use Rattle.otel_otlp_read.specs.Inputs.{read_input}
+use Rattle.otel_otlp_read.specs.declared.input.AttributePlace.{AttributePlace}
 use Rattle.otel_otlp_read.specs.declared.input.LineFault.{LineFault}
 use Rattle.otel_picture.specs.Choices.{IsChosen}
 use Rattle.otel_picture.specs.Drawn.{AreTracesOf, PlainTraces}
@@ -29,41 +32,65 @@ pub record IsViewOf (view : View) (spans : List PlainShownSpan) (text : List ℕ
   pub chosen : IsChosen view.choice traces drawn
   pub text_is : text ≡ written_of view.form drawn
 
--- a line that does not read, and why
+-- which attribute was left out, if it is one
+abbrev pub place_text : Option AttributePlace → List ℕ
+place_text None = []
+place_text (Some place) =
+    codes "attribute " ++ (decimal place.number ++ (codes " of span " ++ (hex_text 16 place.span_id
+    ++ codes " is left out: ")))
+
+-- a line that does not read, or an attribute of one, and why
 abbrev pub fault_line : LineFault → List ℕ
 fault_line found =
-    codes "line " ++ (decimal found.line ++ (codes ": " ++ (fault_text found.fault ++ codes "\n")))
+    codes "line " ++ (decimal found.line ++ (codes ": " ++ (place_text found.attribute ++ (fault_text found.fault
+    ++ codes "\n"))))
 
 abbrev pub fault_lines : List LineFault → List ℕ
 fault_lines = flat_map fault_line
 
--- an input was read to its end; this is the view of its spans, and these of its lines do not read
+-- how many requests had no spans, if one had none
+abbrev pub spanless_line : ℕ → List ℕ
+spanless_line count =
+    if count == 0 then [] else codes "requests without spans: " ++ (decimal count ++ codes "\n")
+
+-- what is said of an input beside its view
+abbrev pub notes_text : List LineFault → ℕ → List ℕ
+notes_text faults spanless = fault_lines faults ++ spanless_line spanless
+
+-- a text is said, if there is one
+abbrev pub Tells : Type 0 → (List ℕ → Type 0) → List ℕ → Type 0
+Tells Silent Says [] = Silent
+Tells Silent Says (b ∷ bs) = Says (b ∷ bs)
+
+-- an input was read to its end; this is the view of its spans, these of its lines and attributes do not read, and so
+-- many of its requests have no spans
 pub record ReadsView (view : View) (input after : Option (List ℕ)) (text : List ℕ) (faults : List LineFault)
-    : Type 0 where
+    (spanless : ℕ) : Type 0 where
   pub bytes : List ℕ
   pub all : AreAll input bytes
   pub at_end : IsAtEnd after
   pub shown : IsViewOf view (read_input bytes).spans text
   pub faults_are : faults ≡ (read_input bytes).faults
+  pub spanless_is : spanless ≡ (read_input bytes).spanless
 
 -- the view of a whole input was written
-pub record DrawsView (view : View) (s : Streams) (faults : List LineFault) : Type 0 where
+pub record DrawsView (view : View) (s : Streams) (faults : List LineFault) (spanless : ℕ) : Type 0 where
   pub text : List ℕ
-  pub reads : ReadsView view s.input s.input_after text faults
+  pub reads : ReadsView view s.input s.input_after text faults spanless
   pub written : Appends s.output s.output_after text
 
 -- nothing was written, or a beginning of the view of a whole input
 abbrev pub BeginsView : View → Streams → Type 0
 BeginsView view s = AppendsBeginning s.output s.output_after []
-    ⊎ ((text : List ℕ) × (faults : List LineFault) × ReadsView view s.input s.input_after text faults
-    × AppendsBeginning s.output s.output_after text)
+    ⊎ ((text : List ℕ) × (faults : List LineFault) × (spanless : ℕ)
+    × ReadsView view s.input s.input_after text faults spanless × AppendsBeginning s.output s.output_after text)
 
--- a view by the exit status: 0 where each line read, and nothing is said; 2 where some did not, which are named; 1 where
--- it failed
+-- a view by the exit status: 0 where each line read; 2 where some did not, or not all of their attributes, which are
+-- named; 1 where it failed. How many requests had no spans is said last
 pub record Views (view : View) (s : Streams) (Silent : Type 0) (Says : List ℕ → Type 0) (status : ℕ)
     : Type 0 where
   pub small : status ≤ 2
-  pub done : status ≡ 0 → DrawsView view s [] × Silent
-  pub named : status ≡ 2 → (faults : List LineFault) × (faults ≢ []) × DrawsView view s faults
-      × Says (fault_lines faults)
+  pub done : status ≡ 0 → (spanless : ℕ) × DrawsView view s [] spanless × Tells Silent Says (notes_text [] spanless)
+  pub named : status ≡ 2 → (faults : List LineFault) × (spanless : ℕ) × (faults ≢ [])
+      × DrawsView view s faults spanless × Tells Silent Says (notes_text faults spanless)
   pub failed : status ≡ 1 → BeginsView view s

@@ -1,5 +1,5 @@
 //! The mode `view`: the traces of an input of OTLP JSON, of any producer, are drawn. The input is read to its end, and then
-//! its picture is written; lines that do not read are named after that.
+//! its picture is written; what does not read is named after that, and requests without spans are counted.
 
 ghost use Rattle.std.specs.Prelude.{◌≡◌, ◌≢◌, ◌⊎◌, [], IfOk, IfSome, MatchOption, OnOk, map, string_bytes};
 ghost use Rattle.std.specs.Io.KnownBytes.{Appends};
@@ -10,22 +10,32 @@ ghost use Rattle.otel_trace_run.specs.Views.{
   DrawsView,
   IsViewOf,
   ReadsView,
+  Tells,
   Views,
   fault_line,
   fault_lines,
+  notes_text,
+  place_text,
 };
 
 use crate::asked_view::{View, ViewForm};
 use crate::program::{DONE, FAILED, REFUSED};
 use otel_export::stream::write_whole;
-use otel_otlp_read::{LineFault, read_text};
+use otel_otlp_read::{AttributePlace, LineFault, read_text};
 use otel_picture::traces::Traces;
 use otel_shown::ShownSpan;
 use std::alloc::{AllocError, Global};
 use std::fmt::Write as _;
 use std::io::{Read, Write};
 
-/// Draws an input, says which lines of it do not read, and answers the status for that.
+/// What is said of an input beside its view: what does not read, and how many requests have no spans.
+#[derive(Drop)]
+struct Notes {
+    faults: Vec<LineFault>,
+    spanless: u64,
+}
+
+/// Draws an input, says what of it does not read, and answers the status for that.
 pub(crate) fn view_input<R: Read, W: Write, F: Write>(
     alloc: Global,
     view: View,
@@ -38,37 +48,38 @@ pub(crate) fn view_input<R: Read, W: Write, F: Write>(
         (faults.new ≡ faults.old) (Appends (F.contents faults.old) (F.contents faults.new)) result }
 {
     match draw_view(alloc, view, input, output) {
-        Some(found) => name_faults(alloc, &found, faults),
+        Some(notes) => tell(alloc, &notes, faults),
         None => FAILED,
     }
 }
 
-/// Draws an input, and gives the lines of it that do not read. None where reading, memory or writing failed.
+/// Draws an input, and gives what is said of it. None where reading, memory or writing failed.
 fn draw_view<R: Read, W: Write>(
     alloc: Global,
     view: View,
     input: &mut R,
     output: &mut W,
-) -> Option<Vec<LineFault>>
+) -> Option<Notes>
     ensures { MatchOption result
         (BeginsView view
         (streams (R.remaining input.old) (R.remaining input.new) (W.contents output.old) (W.contents output.new)))
-        (λ found. DrawsView view
+        (λ notes. DrawsView view
         (streams (R.remaining input.old) (R.remaining input.new) (W.contents output.old) (W.contents output.new))
-        found.items) }
+        notes.faults.items notes.spanless) }
 {
-    let (written, found) = read_view(alloc, view, input)?;
+    let (written, notes) = read_view(alloc, view, input)?;
     let Ok(()) = write_whole(output, &written) else {
         return None;
     };
-    Some(found)
+    Some(notes)
 }
 
-/// Reads an input to its end, and gives what is written of its spans and the lines that do not read. The bytes of the
+/// Reads an input to its end, and gives what is written of its spans and what is said of it. The bytes of the
 /// input are given back before its spans are drawn. None where reading or memory failed.
-fn read_view<R: Read>(alloc: Global, view: View, input: &mut R) -> Option<(Vec<u8>, Vec<LineFault>)>
+fn read_view<R: Read>(alloc: Global, view: View, input: &mut R) -> Option<(Vec<u8>, Notes)>
     ensures { IfSome result (λ found.
-        ReadsView view (R.remaining input.old) (R.remaining input.new) found.0.items found.1.items) }
+        ReadsView view (R.remaining input.old) (R.remaining input.new) found.0.items found.1.faults.items
+        found.1.spanless) }
 {
     let mut text = Vec::new(alloc);
     let Ok(_) = input.read_to_end(&mut text) else {
@@ -77,7 +88,11 @@ fn read_view<R: Read>(alloc: Global, view: View, input: &mut R) -> Option<(Vec<u
     let read = read_text(alloc, &text).ok()?;
     drop(text);
     let written = view_of(alloc, view, &read.spans).ok()?;
-    Some((written, read.faults))
+    let notes = Notes {
+        faults: read.faults,
+        spanless: read.spanless,
+    };
+    Some((written, notes))
 }
 
 /// What a view writes of spans.
@@ -91,13 +106,28 @@ fn view_of(alloc: Global, view: View, spans: &[ShownSpan]) -> Result<Vec<u8>, Al
     }
 }
 
+/// Appends which attribute was left out, if it is one.
+fn push_place(said: &mut String, attribute: Option<AttributePlace>) -> Result<(), AllocError>
+    ensures { OnOk result (TextGrows said.old (place_text attribute) said.new) }
+{
+    match attribute {
+        Some(place) => {
+            let (number, span_id) = (place.number, place.span_id);
+            write!(said, "attribute {number} of span {span_id} is left out: ")
+        }
+        None => Ok(()),
+    }
+}
+
 /// Appends the line that names a fault.
 fn push_fault(said: &mut String, found: LineFault) -> Result<(), AllocError>
     ensures { OnOk result (TextGrows said.old (fault_line found) said.new) }
 {
     let line = found.line;
     let why = found.fault.text();
-    write!(said, "line {line}: {why}\n")
+    write!(said, "line {line}: ")?;
+    push_place(said, found.attribute)?;
+    write!(said, "{why}\n")
 }
 
 /// The lines that name faults.
@@ -111,20 +141,34 @@ fn fault_lines(alloc: Global, found: &[LineFault]) -> Result<String, AllocError>
     Ok(said)
 }
 
-/// Names the lines that do not read, if there are any, and answers the status for that.
-fn name_faults<F: Write>(alloc: Global, found: &[LineFault], faults: &mut F) -> u8
-    ensures { ((result ≡ 0) × (found.now ≡ []) × (faults.new ≡ faults.old)) ⊎ ((result ≡ 1)
-        ⊎ ((result ≡ 2) × (found.now ≢ [])
-        × Appends (F.contents faults.old) (F.contents faults.new) (fault_lines found.now))) }
+/// What is said of an input beside its view.
+fn notes_text(alloc: Global, notes: &Notes) -> Result<String, AllocError>
+    ensures { IfOk result (λ said. string_bytes said ≡ notes_text notes.now.faults.items notes.now.spanless) }
 {
-    if found.is_empty() {
-        return DONE;
+    let mut said = fault_lines(alloc, &notes.faults)?;
+    if notes.spanless != 0 {
+        let spanless = notes.spanless;
+        write!(said, "requests without spans: {spanless}\n")?;
     }
-    let Ok(said) = fault_lines(alloc, found) else {
+    Ok(said)
+}
+
+/// Says that, if there is anything, and answers the status for it.
+fn tell<F: Write>(alloc: Global, notes: &Notes, faults: &mut F) -> u8
+    ensures { (result ≡ 1) ⊎ ((((result ≡ 0) × (notes.now.faults.items ≡ []))
+        ⊎ ((result ≡ 2) × (notes.now.faults.items ≢ [])))
+        × Tells (faults.new ≡ faults.old) (Appends (F.contents faults.old) (F.contents faults.new))
+        (notes_text notes.now.faults.items notes.now.spanless)) }
+{
+    let Ok(said) = notes_text(alloc, notes) else {
         return FAILED;
     };
-    let Ok(()) = write_whole(faults, said.as_bytes()) else {
+    if !said.is_empty() && write_whole(faults, said.as_bytes()).is_err() {
         return FAILED;
-    };
-    REFUSED
+    }
+    if notes.faults.is_empty() {
+        DONE
+    } else {
+        REFUSED
+    }
 }

@@ -1,4 +1,4 @@
--- The lines that do not read are named, if there are any.
+-- What does not read is named, and requests without spans are counted.
 use Rattle.std.proofs.Common.{◌≡◌}
 use Rattle.std.specs.Io.KnownBytes.{Appends}
 use Rattle.otel_trace_run.specs.Streams.{streams}
@@ -9,6 +9,7 @@ pub returns-in-Some : goal.returns-in-Some
 returns-in-Some g c =
     let s = streams (g.R.Read.remaining c.args.input.now) (g.R.Read.remaining c.draw_view.new.input)
     (g.W.Write.contents c.args.output.now) (g.W.Write.contents c.draw_view.new.output) in
-    views_by c.args.view s c.deref.result.now (c.name_faults.new.faults ≡ c.args.faults.now)
-    (Appends (g.F.Write.contents c.args.faults.now) (g.F.Write.contents c.name_faults.new.faults)) c.name_faults.result
-    (rw c.deref.ensures.value c.in-Some.ensures) c.name_faults.ensures
+    let notes = c.in-Some.notes in
+    views_by c.args.view s notes.faults.items notes.spanless (c.tell.new.faults ≡ c.args.faults.now)
+    (Appends (g.F.Write.contents c.args.faults.now) (g.F.Write.contents c.tell.new.faults)) c.tell.result
+    c.in-Some.ensures c.tell.ensures
