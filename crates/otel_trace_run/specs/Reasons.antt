@@ -1,5 +1,5 @@
 -- Why lines read as no commands of the extended grammar, and how that is said.
-use Rattle.std.specs.Prelude.{◌≡◌, ◌≢◌, ◌⊎◌, ℕ, ◌+◌, List, [], ◌∷◌, ◌++◌, Bool, true, false, Option, Some, None, IsUtf8, codes, length}
+use Rattle.std.specs.Prelude.{◌≡◌, ◌≢◌, ◌⊎◌, ℕ, zero, suc, ◌+◌, List, [], ◌∷◌, ◌++◌, Bool, true, false, Option, Some, None, IsUtf8, codes, length}
 use Rattle.std.specs.Fmt.{decimal}
 use Rattle.std.specs.Str.Lines.{lines}
 use Rattle.otel_trace_lines.specs.Lines.{IsDecimal64, IsField}
@@ -41,7 +41,6 @@ HasSpareSpace text = ((more : List ℕ) × (text ≡ 32 ∷ more))
 
 -- a reason that does not depend on the command, where a field is to stand last
 abbrev pub ExplainsRest : List ℕ → Reason → Type 0
-ExplainsRest rest reasons.Number = (number : ℕ) → IsDecimal64 rest number → ⊥
 ExplainsRest rest reasons.FieldTooMany =
     (field : List ℕ) × (after : List ℕ) × IsField field × (rest ≡ field ++ 32 ∷ after)
 ExplainsRest rest reasons.SpaceTooMany = HasSpareSpace rest
@@ -51,10 +50,37 @@ ExplainsRest rest _ = ⊥
 abbrev pub EndsIn : List ℕ → List ℕ → Type 0
 EndsIn fields rest = (fields ≡ rest) ⊎ ((front : List ℕ) × (fields ≡ front ++ 32 ∷ rest))
 
+-- so many fields stand in front of a rest, each before a space
+abbrev pub StandBefore : ℕ → List ℕ → List ℕ → Type 0
+StandBefore zero fields rest = fields ≡ rest
+StandBefore (suc count) fields rest = (field : List ℕ) × (middle : List ℕ) × StandBefore count fields middle
+    × (middle ≡ field ++ 32 ∷ rest)
+
+-- what stands in the place of a moment, after so many fields, does not begin with one
+pub record MisreadsMoment (count : ℕ) (fields : List ℕ) : Type 0 where
+  pub rest : List ℕ
+  pub place : StandBefore count fields rest
+  pub unread : (number : ℕ) → IsDecimal64 rest number → ⊥
+
+-- how many fields stand before the moment that a command wants, if it wants one; the command by what it wants
+abbrev pub moment_place : Reason → Option ℕ
+moment_place reasons.Run = Some 0
+moment_place reasons.End = Some 1
+moment_place reasons.Start = Some 2
+moment_place reasons.Event = Some 2
+moment_place reasons.Child = Some 3
+moment_place reasons.Remote = Some 3
+moment_place _ = None
+
 -- something is missing among the fields of a command, which is said so; or such a reason holds of the last of them
 abbrev pub ExplainsFields : List ℕ → Reason → Reason → Type 0
 ExplainsFields fields wants reason =
     (reason ≡ wants) ⊎ ((rest : List ℕ) × EndsIn fields rest × ExplainsRest rest reason)
+
+-- the same where a moment is wanted after so many fields, which may be misread
+abbrev pub ExplainsMoment : ℕ → List ℕ → Reason → Reason → Type 0
+ExplainsMoment count fields wants reason =
+    ExplainsFields fields wants reason ⊎ ((reason ≡ reasons.Number) × MisreadsMoment count fields)
 
 -- the reason that a word gives: that of its command, that nothing may stand after it, or that it is no command's
 abbrev pub ExplainsWord : List ℕ → Reason → Type 0
@@ -80,10 +106,17 @@ ExplainsWord word reasons.NoCommand = (word ≢ codes "start") × (word ≢ code
 ExplainsWord word reasons.FieldTooMany = (word ≡ codes "flush") ⊎ (word ≡ codes "shutdown")
 ExplainsWord word _ = ⊥
 
--- the reason for a word and the fields after it: that of its command, or one that holds of the last of the fields
+-- a word's command wants a moment, and what stands in its place is none
+abbrev pub MisreadsAfter : List ℕ → List ℕ → Type 0
+MisreadsAfter word fields = (wants : Reason) × (count : ℕ) × ExplainsWord word wants
+    × (moment_place wants ≡ Some count) × MisreadsMoment count fields
+
+-- the reason for a word and the fields after it: that of its command, one that holds of the last of the fields, or that
+-- the moment of the command is none
 abbrev pub ExplainsAfter : List ℕ → List ℕ → Reason → Type 0
-ExplainsAfter word fields reason =
-    ExplainsWord word reason ⊎ ((rest : List ℕ) × EndsIn fields rest × ExplainsRest rest reason)
+ExplainsAfter word fields reason = ExplainsWord word reason
+    ⊎ (((rest : List ℕ) × EndsIn fields rest × ExplainsRest rest reason)
+    ⊎ ((reason ≡ reasons.Number) × MisreadsAfter word fields))
 
 -- why a text is no line of a command
 abbrev pub ExplainsText : List ℕ → Reason → Type 0

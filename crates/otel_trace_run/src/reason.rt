@@ -1,8 +1,11 @@
 //! Why a line reads as no command of the extended grammar, for whoever wrote it. The modes `trace` and `steps`, whose
 //! texts are fixed, do not say it.
 
-ghost use Rattle.std.specs.Prelude.{◌≡◌, ◌⊎◌, IfSome};
-ghost use Rattle.otel_trace_run.specs.Reasons.{Explains, ExplainsAfter, ExplainsFields, ExplainsRest, ExplainsWord, IsLineAt, IsReasonAt, reason_text};
+ghost use Rattle.std.specs.Prelude.{◌≡◌, ◌⊎◌, ℕ, IfSome};
+ghost use Rattle.otel_trace_lines.specs.Lines.{IsDecimal64};
+ghost use Rattle.otel_trace_run.specs.Reasons.{Explains, ExplainsAfter, ExplainsFields, ExplainsMoment, ExplainsRest};
+ghost use Rattle.otel_trace_run.specs.Reasons.{ExplainsWord, IsLineAt, IsReasonAt, reason_text};
+ghost use Rattle.otel_trace_run.specs.declared.reason.Reason.TheVariants as reasons;
 
 use otel_trace_lines::fields::{first_field, first_line, parse_decimal};
 
@@ -147,10 +150,10 @@ fn reason_after(word: &str, fields: &str) -> Reason
 
 /// What is wrong where so many fields are wanted, and a moment after them.
 fn reason_before_moment(fields: &str, count: usize, wants: Reason) -> Reason
-    ensures { ExplainsFields fields.now wants result }
+    ensures { ExplainsMoment count fields.now wants result }
 {
     let mut rest = fields;
-    for _ in 0..count {
+    for passed in 0..count {
         match first_field(rest) {
             Some((_, after)) => rest = after,
             None => return reason_of_gap(rest, wants),
@@ -161,7 +164,7 @@ fn reason_before_moment(fields: &str, count: usize, wants: Reason) -> Reason
 
 /// What is wrong where so many fields are wanted, a moment after them, and maybe more.
 fn reason_before_moment_and_more(fields: &str, count: usize, wants: Reason) -> Reason
-    ensures { ExplainsFields fields.now wants result }
+    ensures { ExplainsMoment count fields.now wants result }
 {
     match reason_before_moment(fields, count, wants) {
         Reason::FieldTooMany => wants,
@@ -195,7 +198,8 @@ fn reason_of_gap(rest: &str, wants: Reason) -> Reason
 
 /// What is wrong where a moment is wanted.
 fn reason_of_moment(rest: &str, wants: Reason) -> Reason
-    ensures { (result ≡ wants) ⊎ ExplainsRest rest.now result }
+    ensures { (result ≡ wants) ⊎ (ExplainsRest rest.now result
+        ⊎ ((result ≡ reasons.Number) × ((number : ℕ) → IsDecimal64 rest.now number → ⊥))) }
 {
     if rest.is_empty() || parse_decimal(rest).is_some() {
         return wants;
