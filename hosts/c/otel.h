@@ -108,7 +108,8 @@ uint32_t otel_with_bools(otel_handle *handle, const uint8_t *key, size_t key_len
                          size_t count);
 
 /* Starts a span of a kind (otel_kind), a child of the span of the key `parent`, or a root where that is 0; *key is its
-   key. It has the attributes that were gathered. */
+   key. It has the attributes that were gathered. Where it is refused ids may have been drawn: those of later spans are
+   others than without the call. */
 uint32_t otel_start(otel_handle *handle, uint64_t tracer, uint64_t parent, uint32_t kind, const uint8_t *name,
                     size_t name_length, uint64_t moment, uint64_t *key);
 
