@@ -138,6 +138,20 @@ impl<C: ReadsClocks + Drop> HostClock<C> {
     }
 }
 
+impl<C: Copy> HostClock<C> {
+    /// Another clock that tells the same time, for a second provider of a program.
+    pub fn twin(&self) -> HostClock<C>
+        ensures { result ≡ self.now }
+    {
+        HostClock {
+            clock: self.clock,
+            made: self.made,
+            started: self.started,
+            last: self.last,
+        }
+    }
+}
+
 impl<C: ReadsClocks + Drop> Now for HostClock<C> {
     ghost use Rattle.otel_host.specs.Clocks.{TellsLater};
 
