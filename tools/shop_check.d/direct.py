@@ -64,13 +64,29 @@ def samplers(listener):
 
 
 def without_file(listener):
-    """It answers as ever where the file is not named or cannot be opened, and says so."""
+    """It answers as ever where the file is not named or cannot be opened, and says so; where spans were asked for it
+    ends with status 1."""
     run(listener, said=b"otel_shop: OTEL_SHOP_SPANS is not set: spans are dropped\n")
-    run(listener, said=b"cannot open the file of OTEL_SHOP_SPANS", OTEL_SHOP_SPANS=f"{listener.room}/none/spans")
-    run(listener, said=b"cannot open the file of OTEL_SHOP_SPANS", OTEL_SHOP_SPANS=listener.room)
-    run(listener, said=b"cannot write spans", OTEL_SHOP_SPANS="/dev/full")
+    run(listener, 1, b"cannot open the file of OTEL_SHOP_SPANS", OTEL_SHOP_SPANS=f"{listener.room}/none/spans")
+    run(listener, 1, b"cannot open the file of OTEL_SHOP_SPANS", OTEL_SHOP_SPANS=listener.room)
+    run(listener, 1, b"cannot write spans", OTEL_SHOP_SPANS="/dev/full")
+    one_by_one = {"OTEL_SHOP_SPANS": "/dev/full", "OTEL_BSP_MAX_EXPORT_BATCH_SIZE": "1"}
+    run(listener, 1, b"otel_shop: 4 exports of spans failed\notel_shop: 1 exports of spans failed\n", **one_by_one)
     variables = {"OTEL_SHOP_SPANS": "/dev/null", "OTEL_SERVICE_NAME": os.fsdecode(b"\xff")}
-    run(listener, said=b"nothing is traced: OTEL_SERVICE_NAME is not UTF-8", **variables)
+    run(listener, 1, b"nothing is traced: OTEL_SERVICE_NAME is not UTF-8", **variables)
+
+
+def torn_line(listener):
+    """A line that was cut off is ended by whoever writes after it, also where that one had the file open before."""
+    path = f"{listener.room}/torn.jsonl"
+    with open(path, "wb") as file:
+        file.write(b'{"resourceSpans":[{"reso')
+    run(listener, OTEL_SHOP_SPANS=path)
+    with open(path, "rb") as file:
+        torn, *whole = file.read().split(b"\n")
+    hold_spans([span for line in whole if line for span in read(line)], REQUESTS)
+    if torn != b'{"resourceSpans":[{"reso':
+        raise Fault(f"the torn line is {torn!r}")
 
 
 def broken_output(listener):
@@ -103,4 +119,4 @@ def lines(listener):
     return f"{len(ran.stdout.splitlines())} lines"
 
 
-PARTS = {it.__name__: it for it in (services, samplers, without_file, broken_output, lines)}
+PARTS = {it.__name__: it for it in (services, samplers, without_file, torn_line, broken_output, lines)}

@@ -48,7 +48,8 @@ def texts_of(attributes):
 def span_from(span, _scope, resource):
     said, service = texts_of(span["attributes"]), texts_of(resource["attributes"]).get("service.name", "")
     ids = span["traceId"], span["spanId"], span["parentSpanId"]
-    http = [said.get(it, "") for it in ("http.request.method", "url.path", "http.response.status_code")]
+    path = said.get("url.path") or said.get("url.full", "").removeprefix("http://prices")
+    http = [said.get("http.request.method", ""), path, said.get("http.response.status_code", "")]
     said_once = span["flags"], span["traceState"], span["status"]["code"]
     return Span(span["name"], span["kind"], *ids, *said_once, service, *http)
 

@@ -29,7 +29,8 @@ def read_request(stream):
 def leave(name, kind, trace, parent, state, remote, method, path, code):
     """Leaves a span, and answers its id."""
     own = f"{CHANCE.getrandbits(64) | 1:016x}"
-    said = {"http.request.method": method, "url.path": path, "http.response.status_code": str(code)}
+    target = {"url.full": f"http://prices{path}"} if kind == 3 else {"url.path": path}
+    said = {"http.request.method": method, **target, "http.response.status_code": str(code)}
     attributes = [{"key": key, "value": {"stringValue": value}} for key, value in said.items()]
     status = {"message": "", "code": 2 if kind == 2 and code >= 500 and FAULT != "status" else 0}
     ids = {"traceId": trace, "spanId": own, "parentSpanId": parent, "traceState": state}

@@ -1,1 +1,2 @@
+pub mod CartLemmas
 pub mod StatusLemmas

@@ -5,12 +5,11 @@
 //! in the trace that its headers name; the cart asks for the price in the same process, by a request with headers.
 //! Spans are appended to the file that `OTEL_SHOP_SPANS` names, as lines of the OpenTelemetry protocol's JSON. Tracing
 //! never stands in the way: what fails of it is named on standard error, and requests are answered as ever. The status
-//! is 1 where the connection broke, or where there was no memory to begin.
+//! is 1 where the connection broke, where there was no memory to begin, and where a span was lost that was asked for.
 #![tactic(auto)]
 
 mod answers;
 mod cart;
-mod lent_clock;
 mod no_backend;
 mod primes;
 mod route;
@@ -19,12 +18,13 @@ mod settings;
 mod shop;
 mod shop_error;
 mod span_file;
+mod stopped_clock;
 mod tracing;
 
-use crate::lent_clock::{LentClock, StoppedClock};
 use crate::settings::{settings_of, untraced};
 use crate::shop_error::ShopError;
 use crate::span_file::{SpanFile, open_appended};
+use crate::stopped_clock::StoppedClock;
 use crate::tracing::{Parts, Settings, SpanReport, serve_traced};
 use http_server::{Config, Connection};
 use opentelemetry_sdk::error::OTelSdkResult;
@@ -48,35 +48,41 @@ type Exporter = OtlpJsonExporter<SpanFile>;
 type Processor = ProcessorOf<Exporter, SimpleSpanProcessor<Exporter>>;
 
 fn main(rt: HostRuntime) -> ExitCode {
-    match run(&rt) {
-        Ok(()) => ExitCode::SUCCESS,
-        Err(error) => {
-            tell(&rt, error);
-            ExitCode::FAILURE
-        }
+    let mut is_whole = true;
+    if let Err(error) = run(&rt, &mut is_whole) {
+        tell(&rt, &mut is_whole, error);
+    }
+    if is_whole {
+        ExitCode::SUCCESS
+    } else {
+        ExitCode::FAILURE
     }
 }
 
 /// Names what went wrong; where that cannot be written the program goes on.
-fn tell(rt: &HostRuntime, error: ShopError) {
+fn tell(rt: &HostRuntime, is_whole: &mut bool, error: ShopError) {
+    *is_whole = false;
     let _told = eprintln!(rt; "{PROGRAM}: {error}");
 }
 
 /// Serves a connection by what the system gives for tracing.
-fn run(rt: &HostRuntime) -> Result<(), ShopError> {
+fn run(rt: &HostRuntime, is_whole: &mut bool) -> Result<(), ShopError> {
     let settings = match settings_of(rt) {
         Ok(settings) => settings,
         Err(error) => {
-            tell(rt, error);
+            tell(rt, is_whole, error);
             untraced()
         }
     };
     name_faults(rt, &settings);
     match HostClock::new(rt) {
-        Ok(clock) => serve_at(rt, &clock, &settings),
+        Ok(clock) => {
+            let twin = clock.twin();
+            serve_at(rt, is_whole, clock, twin, &settings)
+        }
         Err(error) => {
-            tell(rt, ShopError::Clock(error));
-            serve_at(rt, &StoppedClock, &untraced())
+            tell(rt, is_whole, ShopError::Clock(error));
+            serve_at(rt, is_whole, StoppedClock, StoppedClock, &untraced())
         }
     }
 }
@@ -90,68 +96,76 @@ fn name_faults(rt: &HostRuntime, settings: &Settings) {
     }
 }
 
-/// Serves a connection by this clock.
-fn serve_at<C: Now>(rt: &HostRuntime, clock: &C, settings: &Settings) -> Result<(), ShopError> {
+/// Serves a connection by two clocks that tell the same time, that of the shop and that of its backend.
+fn serve_at<C: Now + Drop>(
+    rt: &HostRuntime,
+    is_whole: &mut bool,
+    shop_clock: C,
+    backend_clock: C,
+    settings: &Settings,
+) -> Result<(), ShopError> {
     let keys = RandomState::new(rt).map_err(ShopError::Keys)?;
-    let (shop_file, backend_file) = span_files(rt);
+    let (shop_file, backend_file) = span_files(rt, is_whole);
     let mut connection = Connection::new(rt.alloc(), keys, Config::default());
-    let (served, backend_spans) = serve_traced::<Processor, LentClock<'_, C>, _, _>(
+    let (served, backend_spans) = serve_traced::<Processor, C, _, _>(
         rt.alloc(),
         settings,
-        parts_of(rt.alloc(), shop_file, settings.shop_seed, clock),
-        parts_of(rt.alloc(), backend_file, settings.backend_seed, clock),
+        parts_of(rt.alloc(), shop_file, settings.shop_seed, shop_clock),
+        parts_of(
+            rt.alloc(),
+            backend_file,
+            settings.backend_seed,
+            backend_clock,
+        ),
         &mut connection,
         &mut rt.stdin(),
         &mut rt.stdout(),
     )?;
-    name_losses(rt, served.spans);
-    name_losses(rt, backend_spans);
+    name_losses(rt, is_whole, served.spans);
+    name_losses(rt, is_whole, backend_spans);
     served.connection.map_err(ShopError::Connection)
 }
 
 /// What a shop is made of that writes its spans to a file.
-fn parts_of<'a, C>(
-    alloc: Global,
-    file: SpanFile,
-    seed: u64,
-    clock: &'a C,
-) -> Parts<Exporter, LentClock<'a, C>> {
+fn parts_of<C>(alloc: Global, file: SpanFile, seed: u64, clock: C) -> Parts<Exporter, C> {
     Parts {
         exporter: Exporter::new(alloc, file),
         seed,
-        clock: LentClock { clock },
-        client_clock: LentClock { clock },
+        clock,
     }
 }
 
 /// Where the spans of the shop and those of its backend go.
-fn span_files(rt: &HostRuntime) -> (SpanFile, SpanFile) {
+fn span_files(rt: &HostRuntime, is_whole: &mut bool) -> (SpanFile, SpanFile) {
     match opened_twice(rt) {
-        Ok(files) => files,
-        Err(error) => {
-            tell(rt, error);
-            (SpanFile::Dropped, SpanFile::Dropped)
+        Ok(Some(files)) => return files,
+        Ok(None) => {
+            let _told = eprintln!(rt; "{PROGRAM}: {FILE_VARIABLE} is not set: spans are dropped");
         }
+        Err(error) => tell(rt, is_whole, error),
     }
+    (SpanFile::Dropped, SpanFile::Dropped)
 }
 
-/// Opens the file for spans twice, since each exporter has a writer of its own.
-fn opened_twice(rt: &HostRuntime) -> Result<(SpanFile, SpanFile), ShopError> {
+/// Opens the file for spans twice, since each exporter has a writer of its own; none where it is not named.
+fn opened_twice(rt: &HostRuntime) -> Result<Option<(SpanFile, SpanFile)>, ShopError> {
     let path = match env::var(rt, FILE_VARIABLE) {
         Ok(path) => path,
-        Err(VarError::NotPresent) => return Err(ShopError::NoFile),
+        Err(VarError::NotPresent) => return Ok(None),
         Err(error) => return Err(ShopError::Variable(error)),
     };
     let shop_file = open_appended(rt, path.as_str()).map_err(ShopError::File)?;
     let backend_file = open_appended(rt, path.as_str()).map_err(ShopError::File)?;
-    Ok((shop_file, backend_file))
+    Ok(Some((shop_file, backend_file)))
 }
 
 /// Names what was not exported.
-fn name_losses(rt: &HostRuntime, report: SpanReport) {
+fn name_losses(rt: &HostRuntime, is_whole: &mut bool, report: SpanReport) {
     let SpanReport {
         flushed,
         closed,
+        failed_exports,
+        dropped,
         untraced,
         unfinished,
     } = report;
@@ -160,21 +174,27 @@ fn name_losses(rt: &HostRuntime, report: SpanReport) {
         stranded,
         left_open,
     } = closed;
-    name_failure(rt, flushed);
-    name_failure(rt, result);
-    match stranded.saturating_add(left_open) {
-        0 => {}
-        left => tell(rt, ShopError::LeftBehind(left)),
+    name_failure(rt, is_whole, flushed);
+    name_failure(rt, is_whole, result);
+    let left = stranded.saturating_add(left_open);
+    let lacking = untraced.saturating_add(unfinished);
+    if failed_exports > 0 {
+        tell(rt, is_whole, ShopError::FailedExports(failed_exports));
     }
-    match untraced.saturating_add(unfinished) {
-        0 => {}
-        count => tell(rt, ShopError::Lacking(count)),
+    if dropped > 0 {
+        tell(rt, is_whole, ShopError::Dropped(dropped));
+    }
+    if left > 0 {
+        tell(rt, is_whole, ShopError::LeftBehind(left));
+    }
+    if lacking > 0 {
+        tell(rt, is_whole, ShopError::Lacking(lacking));
     }
 }
 
 /// Names why an export failed, where it did.
-fn name_failure(rt: &HostRuntime, answer: OTelSdkResult) {
+fn name_failure(rt: &HostRuntime, is_whole: &mut bool, answer: OTelSdkResult) {
     if let Err(error) = answer {
-        tell(rt, ShopError::Export(error));
+        tell(rt, is_whole, ShopError::Export(error));
     }
 }

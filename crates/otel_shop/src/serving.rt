@@ -3,8 +3,10 @@
 ghost use Rattle.std.specs.Prelude.{◌≡◌, ◌++◌, ℕ, All, List, OnOk};
 ghost use Rattle.std.specs.Io.KnownBytes.{Appends, Consumes};
 ghost use Rattle.http_server.specs.Connection.{history};
-ghost use Rattle.http_server.specs.Exchange.{Call};
+ghost use Rattle.http_server.specs.Exchange.{Call, Calls};
 ghost use Rattle.http_server.specs.History.{IsDone};
+ghost use Rattle.otel_http.specs.Serving.{TracesRequest};
+ghost use Rattle.otel_shop.specs.Serving.{ServesShop};
 ghost use Rattle.otel_shop.specs.Statuses.{IsAnsweredCall};
 
 use crate::shop::Shop;
@@ -15,7 +17,8 @@ use std::io;
 use std::io::{Read, Write};
 
 /// Serves the requests of a connection until it ends, and on `Ok` it has. What was read of it and written to it are the
-/// reader's and the writer's bytes. Each request that was answered got the status of its path.
+/// reader's and the writer's bytes. Each request in turn was answered by the shop inside its span, and got the status of
+/// its path.
 pub fn serve_shop<
     B: Service,
     P: SpanProcessor,
@@ -26,7 +29,7 @@ pub fn serve_shop<
     W: Write,
 >(
     connection: &mut Connection,
-    shop: &mut Traced<Shop<B, C>, P, S, G, C>,
+    shop: &mut Traced<Shop<B>, P, S, G, C>,
     reader: &mut R,
     writer: &mut W,
 ) -> io::Result<()>
@@ -35,6 +38,9 @@ pub fn serve_shop<
         × ((history connection.new).received ≡ (history connection.old).received ++ more) }
     ensures written { (more : List ℕ) × Appends (W.contents writer.old) (W.contents writer.new) more
         × ((history connection.new).sent ≡ (history connection.old).sent ++ more) }
+    ensures calls { Calls (TracesRequest P.SpanProcessor S.ShouldSample G.GivesIds C.tells
+        (ServesShop P.SpanProcessor S.ShouldSample G.GivesIds C.tells B.answers)) shop.old shop.new
+        (history connection.old).calls (history connection.new).calls }
     ensures answers { (calls : List Call)
         × ((history connection.new).calls ≡ (history connection.old).calls ++ calls) × All IsAnsweredCall calls }
 {

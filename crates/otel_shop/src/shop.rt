@@ -1,6 +1,6 @@
 //! The shop: a service of four routes, each of which is served inside the span of its request.
 
-ghost use Rattle.std.specs.Prelude.{◌++◌, [], OnOk, decimal};
+ghost use Rattle.std.specs.Prelude.{◌++◌, [], OnErr, OnOk, decimal};
 ghost use Rattle.http_server.specs.Response.{IsBlank, IsResponse};
 ghost use Rattle.otel_shop.specs.Primes.{prime_count};
 ghost use Rattle.otel_shop.specs.Texts.{newline};
@@ -25,26 +25,28 @@ const PRICE: &str = "7.50\n";
 
 /// A shop, which asks a backend for prices: a service that answers `GET /price` as a shop does.
 #[derive(Drop)]
-pub struct Shop<B, C> {
+pub struct Shop<B> {
     pub alloc: Global,
     pub backend: B,
-    pub clock: C,
     /// Below which bound the slow page counts primes.
     pub bound: u32,
+    /// How many spans of what it asked lack something or found no memory to end.
+    pub unfinished: u64,
 }
 
-impl<B: Service, C: Now, P: SpanProcessor, S: ShouldSample, G: GivesIds> TracedService<P, S, G>
-    for Shop<B, C> {
+impl<B: Service, P: SpanProcessor, S: ShouldSample, G: GivesIds, C: Now> TracedService<P, S, G, C>
+    for Shop<B> {
     ghost use Rattle.otel_shop.specs.Serving.{ServesShop};
 
-    ghost serves = { ServesShop P.SpanProcessor S.ShouldSample G.GivesIds C.may_tell B.answers };
+    ghost serves = { ServesShop P.SpanProcessor S.ShouldSample G.GivesIds C.tells B.answers };
 
     fn serve(
         &mut self,
         request: &Request<Bytes>,
-        cx: &Context,
         span: &mut Span,
+        cx: &Context,
         provider: &mut ProviderOf<P, S, G>,
+        clock: &mut C,
         response: &mut Response,
     ) -> Result<(), AllocError> {
         let Some(route) = route_at(request.uri().path()) else {
@@ -52,30 +54,33 @@ impl<B: Service, C: Now, P: SpanProcessor, S: ShouldSample, G: GivesIds> TracedS
         };
         record_route(self.alloc, span, request.method(), route.text())?;
         if is_read(request.method()) {
-            self.serve_route(route, cx, provider, response)
+            self.serve_route(route, cx, provider, clock, response)
         } else {
             refuse_method(response)
         }
     }
 }
 
-impl<B: Service, C: Now> Shop<B, C> {
-    ghost use Rattle.otel_shop.specs.Serving.{AnswersCart, AnswersRoute};
+impl<B: Service> Shop<B> {
+    ghost use Rattle.otel_shop.specs.Serving.{AnswersCart, AnswersRoute, TriesCart, TriesRoute, at_shop};
 
     /// Answers a request that reads a route.
-    fn serve_route<P: SpanProcessor, S: ShouldSample, G: GivesIds>(
+    fn serve_route<P: SpanProcessor, S: ShouldSample, G: GivesIds, C: Now>(
         &mut self,
         route: Route,
         cx: &Context,
         provider: &mut ProviderOf<P, S, G>,
+        clock: &mut C,
         response: &mut Response,
     ) -> Result<(), AllocError>
         requires { IsBlank response.old }
-        ensures { OnOk result (AnswersRoute P.SpanProcessor S.ShouldSample G.GivesIds C.may_tell B.answers route
-            self.old cx.now provider.old response.new provider.new self.new) }
+        ensures ok { OnOk result (AnswersRoute P.SpanProcessor S.ShouldSample G.GivesIds C.tells B.answers route cx.now
+            (at_shop self.old provider.old clock.old) response.new (at_shop self.new provider.new clock.new)) }
+        ensures err { OnErr result (TriesRoute P.SpanProcessor S.ShouldSample G.GivesIds C.tells B.answers route cx.now
+            (at_shop self.old provider.old clock.old) (at_shop self.new provider.new clock.new)) }
     {
         match route {
-            Route::Cart => self.serve_cart(cx, provider, response),
+            Route::Cart => self.serve_cart(cx, provider, clock, response),
             Route::Price => answer(response, StatusCode::OK, PRICE),
             Route::Broken => answer(
                 response,
@@ -87,15 +92,18 @@ impl<B: Service, C: Now> Shop<B, C> {
     }
 
     /// Says what is in the cart, and its price by the backend.
-    fn serve_cart<P: SpanProcessor, S: ShouldSample, G: GivesIds>(
+    fn serve_cart<P: SpanProcessor, S: ShouldSample, G: GivesIds, C: Now>(
         &mut self,
         cx: &Context,
         provider: &mut ProviderOf<P, S, G>,
+        clock: &mut C,
         response: &mut Response,
     ) -> Result<(), AllocError>
         requires { IsBlank response.old }
-        ensures { OnOk result (AnswersCart P.SpanProcessor S.ShouldSample G.GivesIds C.may_tell B.answers
-            self.old cx.now provider.old response.new provider.new self.new) }
+        ensures ok { OnOk result (AnswersCart P.SpanProcessor S.ShouldSample G.GivesIds C.tells B.answers cx.now
+            (at_shop self.old provider.old clock.old) response.new (at_shop self.new provider.new clock.new)) }
+        ensures err { OnErr result (TriesCart P.SpanProcessor S.ShouldSample G.GivesIds C.tells B.answers cx.now
+            (at_shop self.old provider.old clock.old) (at_shop self.new provider.new clock.new)) }
     {
         let name = String::from_str(self.alloc, SCOPE)?;
         let tracer = provider.tracer(name)?;
@@ -103,9 +111,10 @@ impl<B: Service, C: Now> Shop<B, C> {
             self.alloc,
             &mut self.backend,
             &tracer,
-            &self.clock,
             cx,
             provider,
+            clock,
+            &mut self.unfinished,
         )?;
         answer_cart(response, &mut reply)
     }

@@ -7,7 +7,7 @@ use std::env::VarError;
 use std::io;
 use thiserror::Error;
 
-/// What is named on standard error. The first three end the program with status 1.
+/// What is named on standard error. It ends the program with status 1, the first three at once.
 #[derive(Debug, Drop, Error)]
 pub enum ShopError {
     #[error("the connection broke: {0}")]
@@ -22,8 +22,6 @@ pub enum ShopError {
     Environment(#[from] EnvError),
     #[error("nothing is traced: {0}")]
     Seed(#[from] SeedError),
-    #[error("OTEL_SHOP_SPANS is not set: spans are dropped")]
-    NoFile,
     #[error("OTEL_SHOP_SPANS cannot be read: {0}: spans are dropped")]
     Variable(VarError),
     #[error("cannot open the file of OTEL_SHOP_SPANS: {0}: spans are dropped")]
@@ -32,6 +30,10 @@ pub enum ShopError {
     Export(#[from] OTelSdkError),
     #[error("{0} spans were not exported")]
     LeftBehind(u128),
+    #[error("{0} exports of spans failed")]
+    FailedExports(u128),
+    #[error("{0} spans were dropped, since too many waited")]
+    Dropped(u128),
     #[error("{0} spans lack something or were not made, since there was no memory")]
     Lacking(u64),
 }

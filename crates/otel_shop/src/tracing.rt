@@ -29,7 +29,7 @@ type ShopIds = IdSourceOf<RandomIdGenerator>;
 type Provider<P> = ProviderOf<P, ShopSampler, ShopIds>;
 
 /// A shop over a backend, whose requests are traced.
-type TracedShop<B, P, C> = Traced<Shop<B, C>, P, ShopSampler, ShopIds, C>;
+type TracedShop<B, P, C> = Traced<Shop<B>, P, ShopSampler, ShopIds, C>;
 
 /// What a provider is made by.
 #[derive(Drop)]
@@ -46,6 +46,10 @@ pub struct Settings {
 pub struct SpanReport {
     pub flushed: OTelSdkResult,
     pub closed: CloseReport,
+    /// How many exports at ends of spans failed.
+    pub failed_exports: u128,
+    /// How many spans found the queue full.
+    pub dropped: u128,
     /// How many requests had no span, since there was no memory.
     pub untraced: u64,
     /// How many spans lack something, since there was no memory.
@@ -59,14 +63,12 @@ pub struct Served {
     pub spans: SpanReport,
 }
 
-/// What a shop is made of: its exporter, the seed of its ids, and clocks that tell the same time, one for the spans of
-/// its requests and one for those of what it asks.
+/// What a shop is made of: its exporter, the seed of its ids, and a clock.
 #[derive(Drop)]
 pub struct Parts<E, C> {
     pub exporter: E,
     pub seed: u64,
     pub clock: C,
-    pub client_clock: C,
 }
 
 /// Serves the requests of a connection by a shop whose backend is another one in the same process, and closes both.
@@ -128,7 +130,6 @@ fn traced_shop<B, P: FromExporter, C: Now + Drop>(
         exporter,
         seed,
         clock,
-        client_clock,
     } = parts;
     let Ok(provider) = provider_with::<P>(alloc, settings, seed, exporter) else {
         return Err(AllocFailed { value: backend });
@@ -136,8 +137,8 @@ fn traced_shop<B, P: FromExporter, C: Now + Drop>(
     let shop = Shop {
         alloc,
         backend,
-        clock: client_clock,
         bound: BOUND,
+        unfinished: 0,
     };
     let tracer = provider.tracer_with_scope(scope);
     Ok(Traced::new(alloc, shop, provider, tracer, clock))
@@ -186,23 +187,27 @@ fn config_of(
 /// Exports what waits and closes the provider of a shop. Answers the backend too.
 fn close<B, P: CountsLeftSpans, C: Drop>(traced: TracedShop<B, P, C>) -> (B, SpanReport) {
     let untraced = traced.untraced();
-    let unfinished = traced.unfinished();
+    let served = traced.unfinished();
     let (shop, mut provider, _clock) = traced.into_parts();
     let Shop {
         alloc: _,
         backend,
-        clock: _,
         bound: _,
+        unfinished,
     } = shop;
     let flushed = provider.force_flush();
+    let failed_exports = provider.failed_exports();
+    let dropped = provider.dropped_count();
     let closed = provider.close();
     (
         backend,
         SpanReport {
             flushed,
             closed,
+            failed_exports,
+            dropped,
             untraced,
-            unfinished,
+            unfinished: served.saturating_add(unfinished),
         },
     )
 }

@@ -1,7 +1,7 @@
 use Rattle.otel_shop.proofs.cart.send.Goals as goal
 
-pub returns : goal.returns
-returns g c = record {
+pub returns-clause-sends : goal.returns-clause-sends
+returns-clause-sends g c = record {
   sent = c.inject_request.new.request;
   carries = c.in-Ok.ensures.injects;
   rest = c.inject_request.ensures.rest;
