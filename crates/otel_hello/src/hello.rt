@@ -2,13 +2,19 @@
 //! its own, whose work stands in a closure: the span ends whatever that answers. All is generic in processor, tracer
 //! and clock, as code over a batch processor with such closures has to be.
 
+ghost use Rattle.std.specs.Prelude.{ℕ, List, OnOk};
+ghost use Rattle.otel_pipeline.specs.Provider.{ProviderState};
+ghost use Rattle.otel_sampling.specs.declared.trace.id_generator.IdSourceOf.{IdSourceOf};
+ghost use Rattle.otel_sampling.specs.declared.trace.sampler.SamplerOf.{SamplerOf};
+ghost use Rattle.otel_hello.specs.Closing.{ClosesWhole};
+
+use crate::losses::{Losses, close_whole};
 use opentelemetry::{Context, Key, KeyValue, Value};
-use opentelemetry_sdk::error::OTelSdkError;
 use opentelemetry_sdk::resource::Resource;
 use opentelemetry_sdk::trace::{
-    CloseReport, ConfigOf, ConfigStrings, CountsLeftSpans, FromExporter, GivesIds, IdSourceOf,
-    InSpan, Now, ProviderOf, RandomIdGenerator, SamplerOf, ShouldSample, Span, SpanLimits,
-    SpanProcessor, Tracer,
+    ConfigOf, ConfigStrings, CountsLeftSpans, FromExporter, GivesIds, IdSourceOf, InSpan, Now,
+    ProviderOf, RandomIdGenerator, SamplerOf, ShouldSample, Span, SpanLimits, SpanProcessor,
+    Tracer,
 };
 use otel_probability::ConsistentProbabilityBased;
 use std::alloc::{AllocError, Global};
@@ -22,29 +28,25 @@ type HelloIds = IdSourceOf<RandomIdGenerator>;
 /// program is built.
 type Provider<P> = ProviderOf<P, HelloSampler, HelloIds>;
 
-/// Traces a greeting under a provider with an eager batch processor over this exporter, closes that, and answers how it
-/// closed. The error is the first of: what the spans wanted and did not get, which is memory; what the exporter
-/// answered.
+/// Traces a greeting under a provider with an eager batch processor over this exporter, and closes that. On Ok all that
+/// the greeting traced was exported: what waited at its end was flushed, no export at an end of a span had failed, no
+/// span was dropped, and none was left in a queue. The error says what was lost.
 pub fn trace_hello<P: FromExporter + CountsLeftSpans, C: Now + Drop>(
     alloc: Global,
     clock: C,
     strings: &ConfigStrings,
     seed: u64,
     exporter: P::Exporter,
-) -> Result<CloseReport, OTelSdkError> {
-    let mut provider = provider_with::<P>(alloc, strings, seed, exporter).map_err(no_memory)?;
-    // Nothing between here and `close` returns early.
+) -> Result<(), Losses>
+    ensures { OnOk result ((greeted : ProviderState P (SamplerOf ℕ) (IdSourceOf (List ℕ)))
+        × ClosesWhole P.SpanProcessor P.CountsLeftSpans.own greeted) }
+{
+    let Ok(mut provider) = provider_with::<P>(alloc, strings, seed, exporter) else {
+        return Err(Losses::of_memory());
+    };
+    // Nothing between here and `close_whole` returns early.
     let traced = greet_world(alloc, clock, &mut provider);
-    let flushed = provider.force_flush();
-    let report = provider.close();
-    traced.map_err(no_memory)?;
-    flushed?;
-    Ok(report)
-}
-
-/// Out of memory, as the SDK calls it.
-fn no_memory(_error: AllocError) -> OTelSdkError {
-    OTelSdkError::OutOfMemory
+    close_whole(provider, traced)
 }
 
 /// A provider with an eager batch processor over this exporter, as strings configure it.
@@ -82,71 +84,81 @@ fn config_of(
 /// Greets the world by a tracer of the provider.
 fn greet_world<P: SpanProcessor, C: Now + Drop>(
     alloc: Global,
-    clock: C,
+    mut clock: C,
     provider: &mut Provider<P>,
 ) -> Result<(), AllocError> {
     let tracer = provider.tracer(String::from_str(alloc, "otel_hello")?)?;
-    let greeter = Greeter {
-        alloc,
-        tracer,
-        clock,
-    };
-    greeter.hello(provider)
+    let greeter = Greeter { alloc, tracer };
+    greeter.hello(provider, &mut clock)
 }
 
-/// What greets: a tracer, and a clock that says when its spans start and end.
+/// What greets.
 #[derive(Drop)]
-struct Greeter<L, C> {
+struct Greeter<L> {
     alloc: Global,
     tracer: L,
-    clock: C,
 }
 
-impl<L: Tracer, C: Now> Greeter<L, C> {
-    /// The root span, `hello`: it greets the world.
-    fn hello<P: SpanProcessor, S: ShouldSample, G: GivesIds>(
+impl<L: Tracer> Greeter<L> {
+    /// The root span, `hello`: it greets the world. The clock says when spans start and end.
+    fn hello<P: SpanProcessor, S: ShouldSample, G: GivesIds, C: Now>(
         &self,
         provider: &mut ProviderOf<P, S, G>,
+        clock: &mut C,
     ) -> Result<(), AllocError> {
-        let work = |span: &mut Span, cx: &Context, provider: &mut ProviderOf<P, S, G>| {
+        let work = |span: &mut Span, cx: &Context, provider: &mut ProviderOf<
+            P,
+            S,
+            G,
+        >, clock: &mut C,| {
             span.set_attribute(self.attribute("greeting.language", "en")?)?;
-            self.greet(cx, provider)
+            self.greet(cx, provider, clock)
         };
         let name = String::from_str(self.alloc, "hello")?;
         let done = self
             .tracer
-            .in_span(name, &Context::new(), provider, &self.clock, work)?;
+            .in_span(name, &Context::new(), provider, clock, work)?;
         outcome_of(done)
     }
 
     /// The span `greet`: it has a greeting made.
-    fn greet<P: SpanProcessor, S: ShouldSample, G: GivesIds>(
+    fn greet<P: SpanProcessor, S: ShouldSample, G: GivesIds, C: Now>(
         &self,
         cx: &Context,
         provider: &mut ProviderOf<P, S, G>,
+        clock: &mut C,
     ) -> Result<(), AllocError> {
-        let work = |span: &mut Span, cx: &Context, provider: &mut ProviderOf<P, S, G>| {
+        let work = |span: &mut Span, cx: &Context, provider: &mut ProviderOf<
+            P,
+            S,
+            G,
+        >, clock: &mut C,| {
             span.set_attribute(self.attribute("greeting.name", "world")?)?;
-            self.format(cx, provider)
+            self.format(cx, provider, clock)
         };
         let name = String::from_str(self.alloc, "greet")?;
-        let done = self.tracer.in_span(name, cx, provider, &self.clock, work)?;
+        let done = self.tracer.in_span(name, cx, provider, clock, work)?;
         outcome_of(done)
     }
 
     /// The span `format`: it makes the greeting, and says so by an event.
-    fn format<P: SpanProcessor, S: ShouldSample, G: GivesIds>(
+    fn format<P: SpanProcessor, S: ShouldSample, G: GivesIds, C: Now>(
         &self,
         cx: &Context,
         provider: &mut ProviderOf<P, S, G>,
+        clock: &mut C,
     ) -> Result<(), AllocError> {
-        let work = |span: &mut Span, _cx: &Context, _provider: &mut ProviderOf<P, S, G>| {
+        let work = |span: &mut Span, _cx: &Context, _provider: &mut ProviderOf<
+            P,
+            S,
+            G,
+        >, clock: &mut C,| {
             span.set_attribute(self.attribute("greeting.text", "Hello, world!")?)?;
             let formatted = String::from_str(self.alloc, "formatted")?;
-            span.add_event_with_timestamp(formatted, self.clock.now(), Vec::new(self.alloc))
+            span.add_event_with_timestamp(formatted, clock.now(), Vec::new(self.alloc))
         };
         let name = String::from_str(self.alloc, "format")?;
-        let done = self.tracer.in_span(name, cx, provider, &self.clock, work)?;
+        let done = self.tracer.in_span(name, cx, provider, clock, work)?;
         outcome_of(done)
     }
 

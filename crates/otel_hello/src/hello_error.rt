@@ -23,8 +23,14 @@ pub enum HelloError {
     Seed(#[from] SeedError),
     #[error("{0}")]
     Export(#[from] OTelSdkError),
+    #[error("{0} exports of spans failed")]
+    FailedExports(u128),
+    #[error("{0} spans were dropped, since too many waited")]
+    Dropped(u128),
     #[error("{0} spans were not exported")]
     LeftBehind(u128),
+    #[error("not all spans were exported")]
+    Lost,
     #[error("out of memory")]
     OutOfMemory(#[from(alloc)] AllocError),
 }

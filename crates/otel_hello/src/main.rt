@@ -11,12 +11,14 @@ mod connection;
 mod fixed;
 mod hello;
 mod hello_error;
+mod losses;
 
 use crate::connection::StdConnection;
 use crate::fixed::{FixedClock, NoVariables};
 use crate::hello::trace_hello;
 use crate::hello_error::HelloError;
-use opentelemetry_sdk::trace::{CloseReport, ConfigStrings, Now, ProcessorOf, SimpleSpanProcessor};
+use crate::losses::Losses;
+use opentelemetry_sdk::trace::{ConfigStrings, Now, ProcessorOf, SimpleSpanProcessor};
 use otel_host::{HostClock, config_strings, config_strings_in, random_seed};
 use otel_http_post::Endpoint;
 use otel_otlp::OtlpJsonExporter;
@@ -108,8 +110,8 @@ fn write_lines<C: Now + Drop>(
 ) -> Result<(), HelloError> {
     name_faults(rt, strings)?;
     let exporter = LineExporter::new(rt.alloc(), rt.stdout());
-    let report = trace_hello::<LineProcessor, C>(rt.alloc(), clock, strings, seed, exporter)?;
-    conclude(report)
+    let traced = trace_hello::<LineProcessor, C>(rt.alloc(), clock, strings, seed, exporter);
+    name_losses(rt, traced)
 }
 
 /// Traces a greeting to a host.
@@ -127,8 +129,8 @@ fn post<C: Now + Drop>(
     };
     let endpoint = endpoint_at(rt.alloc(), host)?;
     let exporter = PostExporter::new(rt.alloc(), endpoint, Encoding::Protobuf, connection);
-    let report = trace_hello::<PostProcessor, C>(rt.alloc(), clock, strings, seed, exporter)?;
-    conclude(report)
+    let traced = trace_hello::<PostProcessor, C>(rt.alloc(), clock, strings, seed, exporter);
+    name_losses(rt, traced)
 }
 
 /// Where a host takes spans.
@@ -136,13 +138,35 @@ fn endpoint_at(alloc: Global, host: String) -> Result<Endpoint, AllocError> {
     Ok(Endpoint::new(alloc, String::from_str(alloc, PATH)?, host))
 }
 
-/// What became of the spans. An error too where one was not exported.
-fn conclude(report: CloseReport) -> Result<(), HelloError> {
-    report.result?;
-    match report.stranded.saturating_add(report.left_open) {
-        0 => Ok(()),
-        left => Err(HelloError::LeftBehind(left)),
+/// Names what was lost, if anything was; an error then.
+fn name_losses(rt: &HostRuntime, traced: Result<(), Losses>) -> Result<(), HelloError> {
+    let Err(losses) = traced else {
+        return Ok(());
+    };
+    let Losses {
+        failure,
+        failed_exports,
+        dropped,
+        left,
+    } = losses;
+    if let Err(error) = failure {
+        tell(rt, HelloError::Export(error))?;
     }
+    if failed_exports > 0 {
+        tell(rt, HelloError::FailedExports(failed_exports))?;
+    }
+    if dropped > 0 {
+        tell(rt, HelloError::Dropped(dropped))?;
+    }
+    if left > 0 {
+        tell(rt, HelloError::LeftBehind(left))?;
+    }
+    Err(HelloError::Lost)
+}
+
+/// Names an error.
+fn tell(rt: &HostRuntime, error: HelloError) -> Result<(), HelloError> {
+    eprintln!(rt; "{PROGRAM}: {error}").map_err(HelloError::StandardError)
 }
 
 /// Names each variable whose value does not read, and what stands in its place.

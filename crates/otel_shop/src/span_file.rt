@@ -1,5 +1,7 @@
 //! Where the spans go: to the end of a file, or nowhere.
 
+ghost use Rattle.std.specs.Prelude.{◌≤◌, IfOk, length};
+
 use std::fs::{File, OpenOptions};
 use std::io::Write;
 use std::os::unix::fs::FileExt;
@@ -40,7 +42,9 @@ impl Write for SpanFile {
 impl LineFile {
     /// Asks the system once, so that a line of spans comes whole. Where the file ends inside the line of another writer,
     /// that is ended first.
-    fn append(&mut self, bytes: &[u8]) -> io::Result<usize> {
+    fn append(&mut self, bytes: &[u8]) -> io::Result<usize>
+        ensures { IfOk result (λ count. count ≤ length bytes.now) }
+    {
         if !self.is_inside_line && bytes.first() != Some(&b'\n') && ends_inside_line(&self.file) {
             let _count = self.file.write(b"\n")?;
         }

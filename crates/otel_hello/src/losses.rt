@@ -1,0 +1,92 @@
+//! How the program's provider is closed, and what was lost of its spans.
+
+ghost use Rattle.std.specs.Prelude.{◌≡◌, IsTrue, Ok, OnOk};
+ghost use Rattle.otel_hello.specs.Closing.{AreNone, ClosesCounted, ClosesWhole};
+
+use opentelemetry_sdk::error::{OTelSdkError, OTelSdkResult};
+use opentelemetry_sdk::trace::{CloseReport, CountsLeftSpans, ProviderOf};
+use std::alloc::AllocError;
+
+/// What was lost.
+#[derive(Debug, Drop)]
+pub struct Losses {
+    /// The first of: what the spans wanted and did not get, which is memory; what the flush answered; what the shutdown
+    /// did.
+    pub failure: OTelSdkResult,
+    /// How many exports at ends of spans failed.
+    pub failed_exports: u128,
+    /// How many spans found the queue full.
+    pub dropped: u128,
+    /// How many spans were left in a queue.
+    pub left: u128,
+}
+
+impl Losses {
+    /// There was no memory to begin.
+    pub fn of_memory() -> Losses {
+        Losses {
+            failure: Err(OTelSdkError::OutOfMemory),
+            failed_exports: 0,
+            dropped: 0,
+            left: 0,
+        }
+    }
+
+    fn are_none(&self) -> bool
+        ensures { IsTrue result → AreNone self.now }
+    {
+        self.failure.is_ok() && self.failed_exports == 0 && self.dropped == 0 && self.left == 0
+    }
+}
+
+/// Has a provider export what waits, and closes it; Ok where nothing was lost, at the work before it neither.
+pub fn close_whole<P: CountsLeftSpans, S: Drop, G: Drop>(
+    provider: ProviderOf<P, S, G>,
+    worked: Result<(), AllocError>,
+) -> Result<(), Losses>
+    ensures { OnOk result (ClosesWhole P.SpanProcessor P.CountsLeftSpans.own provider) }
+{
+    let losses = close_counted(provider, worked);
+    if losses.are_none() {
+        return Ok(());
+    }
+    Err(losses)
+}
+
+/// Has a provider export what waits, and closes it. Says what was lost, where work at it went so.
+fn close_counted<P: CountsLeftSpans, S: Drop, G: Drop>(
+    mut provider: ProviderOf<P, S, G>,
+    worked: Result<(), AllocError>,
+) -> Losses
+    ensures { ClosesCounted P.SpanProcessor P.CountsLeftSpans.own provider worked result }
+{
+    let flushed = provider.force_flush();
+    let failed_exports = provider.failed_exports();
+    let dropped = provider.dropped_count();
+    let CloseReport {
+        result,
+        stranded,
+        left_open,
+    } = provider.close();
+    Losses {
+        failure: first_failure(worked, flushed, result),
+        failed_exports,
+        dropped,
+        left: stranded.saturating_add(left_open),
+    }
+}
+
+/// The first error of these.
+fn first_failure(
+    worked: Result<(), AllocError>,
+    flushed: OTelSdkResult,
+    closed: OTelSdkResult,
+) -> OTelSdkResult
+    ensures { OnOk result ((worked ≡ Ok tt) × (flushed ≡ Ok tt) × (closed ≡ Ok tt)) }
+{
+    if worked.is_err() {
+        return Err(OTelSdkError::OutOfMemory);
+    }
+    flushed?;
+    closed
+}
