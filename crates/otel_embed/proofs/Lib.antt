@@ -10,3 +10,4 @@ pub mod HeaderTexts
 pub mod SettingMaps
 pub mod LastLines
 pub mod Opening
+pub mod Needing

@@ -13,7 +13,7 @@ use Rattle.otel_pipeline.specs.ProviderBuilder.{BuilderState, Builds}
 use Rattle.otel_pipeline.specs.declared.trace.span_processor.SpanProcessor.{Ghosts}
 use Rattle.otel_embed.specs.Conserved.{Hosted}
 use Rattle.otel_embed.specs.IgnoredSettings.{ListsIgnored}
-use Rattle.otel_embed.specs.Opening.{BeginsAs, IsProcessorOver, OpensBy}
+use Rattle.otel_embed.specs.Opening.{BeginsAs, IsProcessorOver, OpensBy, OpensWith}
 use Rattle.otel_embed.specs.Pipelines.{PipelineState}
 use Rattle.otel_embed.specs.SettingLines.{AreStringsOf, processor_kind, settings_of}
 use Rattle.otel_embed.specs.declared.settings.ProcessorKind.{ProcessorKind}
@@ -35,16 +35,19 @@ module _ {P S G : Type 0} (calls : Ghosts P) (config : ConfigOf S G) (made : P) 
       let over_all = subst (λ (d : Bool). Builds calls (record (empty_builder batch d) { processors = made ∷ [] }) provider) off over_strings in
       subst (λ (p : ProviderState P S G). Builds calls (record (empty_builder batch is_disabled) { processors = made ∷ [] }) p) (sym same) over_all
 
--- what strings and a kind open is what the text opens that they are of
-pub opened_by : {C G : Type 0} (calls : Ghosts Hosted) (text given : List ℕ) (settings : TextMap) (strings : PlainConfigStrings) (kind : ProcessorKind) (stored : StoredBatches) (seed : ℕ)
-    (pipeline : PipelineState Hosted (SamplerOf C) (IdSourceOf G)) (ignored : List ℕ) → given ≡ text → settings ≡ settings_of given → AreStringsOf settings strings → kind ≡ processor_kind settings
-    → stored ≡ none_stored → BeginsAs calls (IsProcessorOver (exporters.Memory stored) kind) strings seed pipeline → ListsIgnored settings strings ignored → OpensBy calls text seed pipeline ignored
-opened_by calls text given settings strings kind stored seed pipeline ignored is_text are_settings are_strings is_kind is_empty begins lists =
-    let of_text : settings ≡ settings_of text = are_settings ∙ ap settings_of is_text in
-    record {
-      strings = strings;
-      are_strings = subst (λ (s : TextMap). AreStringsOf s strings) of_text are_strings;
-      begins = subst (λ (k : ProcessorKind). BeginsAs calls (IsProcessorOver (exporters.Memory none_stored) k) strings seed pipeline) (is_kind ∙ ap processor_kind of_text)
-          (subst (λ (s : StoredBatches). BeginsAs calls (IsProcessorOver (exporters.Memory s) kind) strings seed pipeline) is_empty begins);
-      lists = subst (λ (s : TextMap). ListsIgnored s strings ignored) of_text lists;
-    }
+-- what strings and a kind open is what the settings open that they are of, and what those open their text does
+pub opened_as : {C G : Type 0} (calls : Ghosts Hosted) (settings : TextMap) (strings : PlainConfigStrings) (kind : ProcessorKind) (stored : StoredBatches) (seed : ℕ)
+    (pipeline : PipelineState Hosted (SamplerOf C) (IdSourceOf G)) (ignored : List ℕ) → AreStringsOf settings strings → kind ≡ processor_kind settings → stored ≡ none_stored
+    → BeginsAs calls (IsProcessorOver (exporters.Memory stored) kind) strings seed pipeline → ListsIgnored settings strings ignored → OpensWith calls settings seed pipeline ignored
+opened_as calls settings strings kind stored seed pipeline ignored are_strings is_kind is_empty begins lists = record {
+  strings = strings;
+  are_strings = are_strings;
+  begins = subst (λ (k : ProcessorKind). BeginsAs calls (IsProcessorOver (exporters.Memory none_stored) k) strings seed pipeline) is_kind
+      (subst (λ (s : StoredBatches). BeginsAs calls (IsProcessorOver (exporters.Memory s) kind) strings seed pipeline) is_empty begins);
+  lists = lists;
+}
+
+pub opened_by : {C G : Type 0} (calls : Ghosts Hosted) (text given : List ℕ) (settings : TextMap) (seed : ℕ) (pipeline : PipelineState Hosted (SamplerOf C) (IdSourceOf G)) (ignored : List ℕ)
+    → given ≡ text → settings ≡ settings_of given → OpensWith calls settings seed pipeline ignored → OpensBy calls text seed pipeline ignored
+opened_by calls text given settings seed pipeline ignored is_text are_settings opens =
+    subst (λ (s : TextMap). OpensWith calls s seed pipeline ignored) (are_settings ∙ ap settings_of is_text) opens

@@ -1,10 +1,12 @@
 -- The open spans of a pipeline by their keys: numbers from 1 on, each of which names one span for ever.
-use Rattle.std.specs.Prelude.{◌≡◌, ◌≤◌, ◌<◌, ◌+◌, ℕ, List, Option, Some, None, if◌then◌else◌}
+use Rattle.std.specs.Prelude.{◌≡◌, ◌≤◌, ◌<◌, ◌+◌, ℕ, List, Option, Some, None, IsSome, if◌then◌else◌}
 use Rattle.std.specs.Ordering.{nat_cmp}
 use Rattle.std.specs.BTreeMap.{is_at}
 use Rattle.std.specs.Map.{lookup}
 use Rattle.opentelemetry.specs.Plain.{PlainContext}
 use Rattle.otel_pipeline.specs.SpanHistory.{Edit, PlainSpan, after}
+use Rattle.otel_embed.specs.declared.error.PipelineError.{PipelineError}
+use Rattle.otel_embed.specs.declared.error.PipelineError.TheVariants as errors
 
 -- an open span, and the context that it was started in
 pub record OpenedSpan : Type 0 where
@@ -19,6 +21,12 @@ pub record OpenedSpans : Type 0 where
 -- the span of a key, if one is open
 abbrev pub span_at : OpenedSpans → ℕ → Option OpenedSpan
 span_at spans key = lookup (is_at (nat_cmp key)) spans.entries
+
+-- why a call at the span of a key was refused: none is open under it, or one is, and there was no memory
+abbrev pub IsRefusedAt : OpenedSpans → ℕ → PipelineError → Type 0
+IsRefusedAt spans key errors.NoSuchSpan = span_at spans key ≡ None
+IsRefusedAt spans key errors.OutOfMemory = IsSome (span_at spans key)
+IsRefusedAt spans key _ = ⊥
 
 -- each key has what it had
 abbrev pub SameSpans : OpenedSpans → OpenedSpans → Type 0

@@ -1,6 +1,7 @@
 -- What a pipeline of a host begins as: nothing was started, exported or gathered.
 use Rattle.std.specs.Prelude.{◌≡◌, ℕ, List, [], ◌∷◌, codes, false}
 use Rattle.opentelemetry.specs.Plain.{scope_named}
+use Rattle.opentelemetry.specs.TextMap.{TextMap}
 use Rattle.otel_batch.specs.PlainBatchConfig.{IsBatchConfigOf, PlainBatchConfig}
 use Rattle.otel_export.specs.StoredBatches.{none_stored}
 use Rattle.otel_export.specs.declared.trace.exporter_box.ExporterOf.TheVariants as exporters
@@ -57,12 +58,17 @@ IsProcessorOver exporter kind strings made = MatchKind kind (made ≡ processors
     ((config : PlainBatchConfig) × IsBatchConfigOf strings config
     × (made ≡ processors.Batch (eager_processor exporter config)))
 
--- a pipeline that a text of settings and a seed open: over an exporter in memory that stores nothing yet, with a list
--- of what is ignored
-pub record OpensBy {C G : Type 0} (calls : Ghosts Hosted) (text : List ℕ) (seed : ℕ)
+-- a pipeline that settings and a seed open: over an exporter in memory that stores nothing yet, with a list of what is
+-- ignored
+pub record OpensWith {C G : Type 0} (calls : Ghosts Hosted) (settings : TextMap) (seed : ℕ)
     (pipeline : PipelineState Hosted (SamplerOf C) (IdSourceOf G)) (ignored : List ℕ) : Type 0 where
   pub strings : PlainConfigStrings
-  pub are_strings : AreStringsOf (settings_of text) strings
-  pub begins : BeginsAs calls (IsProcessorOver (exporters.Memory none_stored) (processor_kind (settings_of text)))
-      strings seed pipeline
-  pub lists : ListsIgnored (settings_of text) strings ignored
+  pub are_strings : AreStringsOf settings strings
+  pub begins : BeginsAs calls (IsProcessorOver (exporters.Memory none_stored) (processor_kind settings)) strings seed
+      pipeline
+  pub lists : ListsIgnored settings strings ignored
+
+-- a pipeline that a text of settings and a seed open
+abbrev pub OpensBy : {C G : Type 0} → Ghosts Hosted → List ℕ → ℕ → PipelineState Hosted (SamplerOf C) (IdSourceOf G)
+    → List ℕ → Type 0
+OpensBy calls text seed pipeline ignored = OpensWith calls (settings_of text) seed pipeline ignored

@@ -9,6 +9,7 @@ use Rattle.opentelemetry.specs.PlainSpanBuilder.{PlainSpanBuilder}
 use Rattle.opentelemetry.specs.declared.trace.span_kind.SpanKind.{SpanKind}
 use Rattle.otel_export.specs.declared.error.OTelSdkError.{OTelSdkError}
 use Rattle.otel_pipeline.specs.Calls.{Calls}
+use Rattle.otel_pipeline.specs.Ending.{EndIsInfallible}
 use Rattle.otel_pipeline.specs.FirstProcessor.{losses_of_first}
 use Rattle.otel_pipeline.specs.SpanEdits.{new_link}
 use Rattle.otel_pipeline.specs.SpanHistory.{Edit, add_link}
@@ -97,6 +98,11 @@ pub record EndsSpan {P S G : Type 0} (calls : Ghosts P) (old : PipelineState P S
     spans = new.spans;
     refusals = new.refusals;
   }
+
+-- the end of the span that is open under this key needs no memory
+abbrev pub EndNeedsNone : {P S G : Type 0} → PipelineState P S G → ℕ → Type 0
+EndNeedsNone pipeline key = (found : OpenedSpan) × (span_at pipeline.spans key ≡ Some found)
+    × EndIsInfallible found.span pipeline.flow.provider
 
 -- a span is not open any more, and nothing was delivered
 pub record Abandons {P S G : Type 0} (old : PipelineState P S G) (key : ℕ) (new : PipelineState P S G) : Type 0 where

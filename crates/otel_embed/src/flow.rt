@@ -1,6 +1,6 @@
 //! What becomes of ended spans: the queue is worked off, what was exported becomes lines, and lines are handed out.
 
-ghost use Rattle.std.specs.Prelude.{◌≡◌, [], IfOk, IsOk, OnErr, OnOk, length};
+ghost use Rattle.std.specs.Prelude.{◌≡◌, [], IfErr, IfOk, IsOk, OnErr, OnOk, length};
 ghost use Rattle.otel_pipeline.specs.Calls.{calls_of};
 ghost use Rattle.otel_embed.specs.Flows.{flushed, ran, shut};
 ghost use Rattle.otel_embed.specs.Pipelines.{CountsIn, Drains, DrainsInto, FlowsBy};
@@ -17,9 +17,10 @@ use otel_sampling::trace::{GivesIds, ShouldSample};
 impl<P: KeepsBatches, S: ShouldSample, G: GivesIds> PipelineOf<P, S, G> {
     /// Exports what waits in the queue. `NotExported` where that failed.
     pub fn flush(&mut self) -> Result<(), PipelineError>
-        ensures { FlowsBy
+        ensures flows { FlowsBy
             (calls_of P.SpanProcessor P.Timed.own P.CountsLeftSpans.own P.KeepsBatches.own S.ShouldSample G.GivesIds)
             flushed (IsOk result) self.old self.new }
+        ensures err { IfErr result (λ error. error ≡ PipelineError.NotExported) }
     {
         self.provider
             .force_flush()
@@ -28,9 +29,10 @@ impl<P: KeepsBatches, S: ShouldSample, G: GivesIds> PipelineOf<P, S, G> {
 
     /// Exports what is due at this moment, which is not before that of an earlier call. `NotExported` where that failed.
     pub fn run_due(&mut self, now: Moment) -> Result<(), PipelineError>
-        ensures { FlowsBy
+        ensures flows { FlowsBy
             (calls_of P.SpanProcessor P.Timed.own P.CountsLeftSpans.own P.KeepsBatches.own S.ShouldSample G.GivesIds)
             (ran now.0) (IsOk result) self.old self.new }
+        ensures err { IfErr result (λ error. error ≡ PipelineError.NotExported) }
     {
         self.provider
             .run_processors(now)
@@ -39,9 +41,10 @@ impl<P: KeepsBatches, S: ShouldSample, G: GivesIds> PipelineOf<P, S, G> {
 
     /// Exports what waits, and nothing afterwards. `NotExported` where that failed, or it was shut down before.
     pub fn shutdown(&mut self) -> Result<(), PipelineError>
-        ensures { FlowsBy
+        ensures flows { FlowsBy
             (calls_of P.SpanProcessor P.Timed.own P.CountsLeftSpans.own P.KeepsBatches.own S.ShouldSample G.GivesIds)
             shut (IsOk result) self.old self.new }
+        ensures err { IfErr result (λ error. error ≡ PipelineError.NotExported) }
     {
         self.provider
             .shutdown()
@@ -53,7 +56,7 @@ impl<P: KeepsBatches, S: ShouldSample, G: GivesIds> PipelineOf<P, S, G> {
         ensures ok { OnOk result (Drains
             (calls_of P.SpanProcessor P.Timed.own P.CountsLeftSpans.own P.KeepsBatches.own S.ShouldSample G.GivesIds)
             [] self.old self.new) }
-        ensures err { OnErr result (self.new ≡ self.old) }
+        ensures err { IfErr result (λ error. (error ≡ PipelineError.OutOfMemory) × (self.new ≡ self.old)) }
     {
         let batches = kept_by_first(self.provider.processors());
         write_requests(self.alloc, &mut self.lines, &self.resource, batches)?;
@@ -69,7 +72,8 @@ impl<P: KeepsBatches, S: ShouldSample, G: GivesIds> PipelineOf<P, S, G> {
         ensures ok { IfOk result (λ taken. DrainsInto
             (calls_of P.SpanProcessor P.Timed.own P.CountsLeftSpans.own P.KeepsBatches.own S.ShouldSample G.GivesIds)
             self.old buffer.old taken buffer.new self.new) }
-        ensures err { OnErr result ((self.new ≡ self.old) × (buffer.new ≡ buffer.old)) }
+        ensures err { IfErr result (λ error. (error ≡ PipelineError.OutOfMemory) × (self.new ≡ self.old)
+            × (buffer.new ≡ buffer.old)) }
     {
         self.collect_lines()?;
         let taken = self.lines.len();

@@ -1,8 +1,8 @@
 //! A span that a host holds by its key, with the context that it was started in: a baggage there goes on to children and
 //! to other processes. A span has to be spent: one that is left is abandoned.
 
-ghost use Rattle.std.specs.Prelude.{◌≡◌, IfOk, OnErr, OnOk, Some};
-ghost use Rattle.otel_pipeline.specs.Ending.{Ends};
+ghost use Rattle.std.specs.Prelude.{◌≡◌, IfOk, IsOk, OnErr, OnOk, Some};
+ghost use Rattle.otel_pipeline.specs.Ending.{EndIsInfallible, Ends};
 ghost use Rattle.otel_pipeline.specs.SpanHistory.{after};
 
 use crate::changes_span::ChangesSpan;
@@ -27,7 +27,8 @@ impl Model for OpenSpan {
 
 impl Drop for OpenSpan {
     fn drop(self) {
-        let OpenSpan { span, cx: _ } = self;
+        let OpenSpan { span, cx } = self;
+        drop(cx);
         span.abandon();
     }
 }
@@ -45,6 +46,7 @@ impl OpenSpan {
     pub(crate) fn change<E: ChangesSpan>(&mut self, change: E) -> Result<(), AllocError>
         ensures ok { OnOk result (self.new ≡ record self.old { span = after (E.edits change) self.old.span }) }
         ensures err { OnErr result (self.new ≡ self.old) }
+        ensures free { E.needs_none change self.old.span → IsOk result }
     {
         change.apply(&mut self.span)
     }
@@ -58,6 +60,7 @@ impl OpenSpan {
         ensures ok { IfOk result (λ refused.
             Ends P.SpanProcessor provider.old self.old.span moment.0 refused provider.new) }
         ensures err { OnErr result ((self.new ≡ self.old) × (provider.new ≡ provider.old)) }
+        ensures free { EndIsInfallible self.old.span provider.old → IsOk result }
     {
         self.span.end_with_timestamp(provider, moment)
     }

@@ -1,7 +1,8 @@
 //! The open spans by their keys. A key is a number from 1 on, names one span, and is not used again.
 
-ghost use Rattle.std.specs.Prelude.{◌≡◌, [], IfOk, OnErr, OnOk, Some, length};
-ghost use Rattle.otel_embed.specs.Keys.{Closes, EditsAt, Opens, SameSpans, span_at};
+ghost use Rattle.std.specs.Prelude.{◌≡◌, [], IfErr, IfOk, IsOk, OnErr, OnOk, None, Some, length};
+ghost use Rattle.otel_embed.specs.Keys.{Closes, EditsAt, IsRefusedAt, OpenedSpan, Opens, SameSpans, span_at};
+ghost use Rattle.otel_pipeline.specs.Ending.{EndIsInfallible};
 ghost use Rattle.otel_embed.specs.Flows.{MayStart};
 ghost use Rattle.otel_embed.specs.KeyedSpans.{EndsAt, StartsAt, StartsUnder};
 ghost use Rattle.otel_pipeline.specs.StartRequest.{start_request};
@@ -80,6 +81,8 @@ impl OpenSpans {
     {
         let key = self.next_key;
         let Some(next_key) = key.checked_add(1) else {
+            drop(builder);
+            drop(cx);
             return Err(PipelineError::OutOfMemory);
         };
         start_under(&mut self.spans, key, builder, cx, tracer, provider, now)?;
@@ -95,6 +98,9 @@ impl OpenSpans {
     ) -> Result<(), PipelineError>
         ensures ok { OnOk result (EditsAt self.old key (E.edits change) self.new) }
         ensures err { OnErr result (SameSpans self.old self.new) }
+        ensures why { IfErr result (IsRefusedAt self.old key) }
+        ensures free { (found : OpenedSpan) → span_at self.old key ≡ Some found → E.needs_none change found.span
+            → IsOk result }
     {
         let Some(found) = self.spans.get_mut(&key) else {
             return Err(PipelineError::NoSuchSpan);
@@ -113,6 +119,9 @@ impl OpenSpans {
         ensures ok { IfOk result (λ refused. EndsAt P.SpanProcessor provider.old self.old key moment.0 refused
             provider.new self.new) }
         ensures err { OnErr result (SameSpans self.old self.new × (provider.new ≡ provider.old)) }
+        ensures why { IfErr result (IsRefusedAt self.old key) }
+        ensures free { (found : OpenedSpan) → span_at self.old key ≡ Some found
+            → EndIsInfallible found.span provider.old → IsOk result }
     {
         let Some(found) = self.spans.get_mut(&key) else {
             return Err(PipelineError::NoSuchSpan);
@@ -126,6 +135,7 @@ impl OpenSpans {
     pub(crate) fn abandon(&mut self, key: u64) -> Result<(), PipelineError>
         ensures ok { OnOk result ((found : _) × Closes self.old key found self.new) }
         ensures err { OnErr result (SameSpans self.old self.new) }
+        ensures why { IfErr result (λ error. (error ≡ PipelineError.NoSuchSpan) × (span_at self.old key ≡ None)) }
     {
         match self.spans.remove(&key) {
             Some(_abandoned) => Ok(()),
@@ -152,19 +162,30 @@ fn start_under<P: SpanProcessor, S: ShouldSample, G: GivesIds>(
     ensures err { OnErr result (SameSpans (record { entries = spans.old.entries; next_key = key })
         (record { entries = spans.new.entries; next_key = key })) }
 {
-    match spans.entry(key)? {
+    let entry = match spans.entry(key) {
+        Ok(entry) => entry,
+        Err(error) => {
+            drop(builder);
+            drop(cx);
+            return Err(PipelineError::from(error));
+        }
+    };
+    match entry {
         Entry::Vacant(place) => match tracer.build_with_context(builder, &cx, provider, now) {
             Ok(span) => {
                 place.insert(OpenSpan { span, cx });
                 Ok(())
             }
             Err(error) => {
+                drop(cx);
                 // Its refusal leaves the map as it was.
                 Entry::Vacant(place).or_try_insert_with(|| Err(error))?;
                 unreachable!()
             }
         },
         Entry::Occupied(taken) => {
+            drop(builder);
+            drop(cx);
             // The span that is there stays.
             let _there = taken.into_mut();
             Err(PipelineError::OutOfMemory)

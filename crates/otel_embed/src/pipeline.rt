@@ -2,7 +2,8 @@
 
 ghost use Rattle.std.specs.Prelude.{◌≡◌, ◌++◌, ◌∷◌, [], IfOk, string_bytes};
 ghost use Rattle.otel_sampling.specs.Config.{IsConfigOf};
-ghost use Rattle.otel_embed.specs.Opening.{BeginsAs, MatchKind, OpensBy};
+ghost use Rattle.otel_embed.specs.Opening.{BeginsAs, MatchKind, OpensBy, OpensWith};
+ghost use Rattle.otel_embed.specs.SettingLines.{AreStringsOf};
 
 use crate::error::PipelineError;
 use crate::pipeline_of::PipelineOf;
@@ -112,6 +113,34 @@ fn pipeline_with<P: FromExporter>(
     Ok(PipelineOf::over(alloc, provider, resource, tracers))
 }
 
+/// A pipeline over an exporter in memory, by settings and the strings that they are.
+fn open_as(
+    alloc: Global,
+    settings: &Settings,
+    strings: &ConfigStrings,
+    seed: u64,
+) -> Result<Pipeline, AllocError>
+    requires { AreStringsOf settings.now strings.now }
+    ensures { IfOk result (λ pipeline. OpensWith
+        ⟦<HostProcessor as SpanProcessor>⟧ settings.now seed pipeline.inside (string_bytes pipeline.ignored)) }
+{
+    let ignored = settings.ignored(alloc, strings)?;
+    let exporter = ExporterOf::Memory(InMemorySpanExporter::new(alloc));
+    let inside = pipeline_with(alloc, settings.processor_kind(), strings, seed, exporter)?;
+    Ok(Pipeline { inside, ignored })
+}
+
+/// The same, by settings alone.
+fn open_with(alloc: Global, settings: &Settings, seed: u64) -> Result<Pipeline, AllocError>
+    ensures { IfOk result (λ pipeline. OpensWith
+        ⟦<HostProcessor as SpanProcessor>⟧ settings.now seed pipeline.inside (string_bytes pipeline.ignored)) }
+{
+    let strings = settings.strings(alloc)?;
+    let opened = open_as(alloc, settings, &strings, seed);
+    drop(strings);
+    opened
+}
+
 impl Pipeline {
     /// Opens a pipeline. The settings are lines `NAME=VALUE`; the seed decides all ids.
     pub fn open(alloc: Global, settings: &[u8], seed: u64) -> Result<Pipeline, PipelineError>
@@ -122,11 +151,9 @@ impl Pipeline {
             return Err(PipelineError::NotUtf8);
         };
         let settings = Settings::read(alloc, text)?;
-        let strings = settings.strings(alloc)?;
-        let ignored = settings.ignored(alloc, &strings)?;
-        let exporter = ExporterOf::Memory(InMemorySpanExporter::new(alloc));
-        let inside = pipeline_with(alloc, settings.processor_kind(), &strings, seed, exporter)?;
-        Ok(Pipeline { inside, ignored })
+        let opened = open_with(alloc, &settings, seed);
+        drop(settings);
+        Ok(opened?)
     }
 
     /// The names of the settings that were ignored, each with a line feed after it: those that nobody knows, and those

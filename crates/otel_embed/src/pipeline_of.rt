@@ -1,13 +1,16 @@
 //! A pipeline over any one kind of processor, sampler and source of ids: its provider, its tracers and open spans by
 //! numbers, the attributes that were gathered for what comes next, and the lines that were not handed out yet.
 
-ghost use Rattle.std.specs.Prelude.{◌≡◌, ◌++◌, ◌∷◌, [], IfOk, OnErr, OnOk, slice_get, Some, string_bytes, map};
+ghost use Rattle.std.specs.Prelude.{◌≡◌, ◌++◌, ◌∷◌, [], IfErr, IfOk, IsOk, OnErr, OnOk, slice_get, None, Some, map};
+ghost use Rattle.std.specs.Prelude.{string_bytes};
+ghost use Rattle.otel_embed.specs.Keys.{IsRefusedAt, OpenedSpan, span_at};
 ghost use Rattle.otel_pipeline.specs.Calls.{Calls, calls_of};
 ghost use Rattle.otel_pipeline.specs.SpanHistory.{set_attribute};
 ghost use Rattle.otel_embed.specs.Pipelines.{
   Abandons,
   AddsTracer,
   EditsSpan,
+  EndNeedsNone,
   EndsSpan,
   IsContextUnder,
   RefusesIn,
@@ -106,8 +109,8 @@ fn tracer_at(tracers: &[SdkTracer], number: u64) -> Result<&SdkTracer, PipelineE
 }
 
 impl<P, S, G> PipelineOf<P, S, G> {
-    /// A pipeline over a provider, whose spans are of this resource. Its first tracer, of number 0, is for the library
-    /// of this name. Where there is no memory the provider comes back.
+    /// A pipeline over a provider, whose spans are of this resource, with these tracers by their numbers from 0 on. No
+    /// span is open. It needs no memory.
     pub fn over(
         alloc: Global,
         provider: ProviderOf<P, S, G>,
@@ -141,13 +144,18 @@ impl<P: CountsLeftSpans, S: Drop, G: Drop> PipelineOf<P, S, G> {
         let PipelineOf {
             alloc: _,
             provider,
-            resource: _,
-            lines: _,
-            tracers: _,
-            spans: _,
-            gathered: _,
+            resource,
+            lines,
+            tracers,
+            spans,
+            gathered,
             refusals: _,
         } = self;
+        drop(spans);
+        drop(tracers);
+        drop(gathered);
+        drop(lines);
+        drop(resource);
         provider.close()
     }
 }
@@ -198,6 +206,9 @@ impl<P: KeepsBatches, S: ShouldSample, G: GivesIds> PipelineOf<P, S, G> {
     ) -> Result<(), PipelineError>
         ensures ok { OnOk result (EditsSpan self.old span (E.edits change) self.new) }
         ensures err { OnErr result (Stays self.old self.new) }
+        ensures why { IfErr result (IsRefusedAt self.old.spans span) }
+        ensures free { (found : OpenedSpan) → span_at self.old.spans span ≡ Some found
+            → E.needs_none change found.span → IsOk result }
     {
         self.spans.change(span, change)
     }
@@ -215,6 +226,8 @@ impl<P: KeepsBatches, S: ShouldSample, G: GivesIds> PipelineOf<P, S, G> {
     pub fn abandon(&mut self, span: u64) -> Result<(), PipelineError>
         ensures ok { OnOk result (Abandons self.old span self.new) }
         ensures err { OnErr result (Stays self.old self.new) }
+        ensures why { IfErr result (λ error. (error ≡ PipelineError.NoSuchSpan)
+            × (span_at self.old.spans span ≡ None)) }
     {
         self.spans.abandon(span)
     }
@@ -257,7 +270,14 @@ impl<P: KeepsBatches, S: ShouldSample, G: GivesIds> PipelineOf<P, S, G> {
             self.old (record self.new { gathered = [] })) }
         ensures gathered { self.new.gathered ≡ self.old.gathered }
     {
-        let tracer = tracer_at(&self.tracers, start.tracer)?;
+        let tracer = match tracer_at(&self.tracers, start.tracer) {
+            Ok(tracer) => tracer,
+            Err(error) => {
+                drop(attributes);
+                drop(cx);
+                return Err(error);
+            }
+        };
         let builder = SpanBuilder::from_name(name)
             .with_kind(start.kind)
             .with_attributes(attributes);
@@ -269,6 +289,8 @@ impl<P: KeepsBatches, S: ShouldSample, G: GivesIds> PipelineOf<P, S, G> {
     pub fn end(&mut self, span: u64, moment: Moment) -> Result<(), PipelineError>
         ensures ok { OnOk result (EndsSpan P.SpanProcessor self.old span moment.0 self.new) }
         ensures err { OnErr result (Stays self.old self.new) }
+        ensures why { IfErr result (IsRefusedAt self.old.spans span) }
+        ensures free { EndNeedsNone self.old span → IsOk result }
     {
         let refused = self.spans.end(span, &mut self.provider, moment)?;
         self.refusals = self.refusals.saturating_add(refused as u64);

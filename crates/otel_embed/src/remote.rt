@@ -1,6 +1,8 @@
 //! Spans between processes: a start under the span of another process, links to such, and headers.
 
-ghost use Rattle.std.specs.Prelude.{◌≡◌, IfOk, OnErr, OnOk, Some, is_some, string_bytes};
+ghost use Rattle.std.specs.Prelude.{◌≡◌, ◌<◌, IfOk, OnErr, OnOk, Some, is_some, string_bytes};
+ghost use Rattle.opentelemetry.specs.Plain.{PlainContext};
+ghost use Rattle.opentelemetry.specs.PlainContexts.{current_span_context};
 ghost use Rattle.otel_pipeline.specs.Calls.{calls_of};
 ghost use Rattle.otel_embed.specs.Headers.{IsContextOf, plain_headers};
 ghost use Rattle.otel_embed.specs.Keys.{span_at};
@@ -14,6 +16,7 @@ use opentelemetry::propagation::Injector;
 use opentelemetry::trace::{Link, SpanContext};
 use otel_pipeline::trace::{KeepsBatches, SpanEdit};
 use otel_sampling::trace::{GivesIds, ShouldSample};
+use std::alloc::{AllocError, Global};
 
 impl<P: KeepsBatches, S: ShouldSample, G: GivesIds> PipelineOf<P, S, G> {
     /// Starts a span as a child of the span of another process, which headers name, and with the baggage that they say.
@@ -58,11 +61,7 @@ impl<P: KeepsBatches, S: ShouldSample, G: GivesIds> PipelineOf<P, S, G> {
         ensures err { OnErr result (Stays (taken self.old) self.new) }
     {
         let attributes = self.take_gathered();
-        let cx = host_context(self.alloc, headers)?;
-        if !cx.span_context().is_valid() {
-            return Err(PipelineError::BadArgument);
-        }
-        let target = cx.span_context().clone()?;
+        let target = named_span(self.alloc, headers)?;
         self.change(span, SpanEdit::AddLink(Link::new(target, attributes, 0)))
     }
 
@@ -92,7 +91,25 @@ impl<P: KeepsBatches, S: ShouldSample, G: GivesIds> PipelineOf<P, S, G> {
         ensures { OnOk result (SetsHeadersOf self.now span (I.texts headers.old) (I.texts headers.new)) }
     {
         let cx = self.spans.get(span)?.active_context()?;
-        inject(self.alloc, &cx, headers)?;
-        Ok(())
+        let injected = inject(self.alloc, &cx, headers);
+        drop(cx);
+        Ok(injected?)
+    }
+}
+
+/// The span that headers name; `BadArgument` where they name none.
+fn named_span(alloc: Global, headers: HostHeaders<'_>) -> Result<SpanContext, PipelineError>
+    ensures { IfOk result (λ named. (cx : PlainContext) × IsContextOf (plain_headers headers.entry) cx
+        × (0 < named.trace_id) × (0 < named.span_id) × (named ≡ current_span_context cx)) }
+{
+    let cx = host_context(alloc, headers)?;
+    let named: Result<SpanContext, AllocError> = cx.span_context().clone();
+    drop(cx);
+    let named = named?;
+    if named.is_valid() {
+        Ok(named)
+    } else {
+        drop(named);
+        Err(PipelineError::BadArgument)
     }
 }

@@ -1,6 +1,8 @@
 //! The calls of a pipeline that take what a host hands in, in the order of a span's life. Texts are bytes.
 
-ghost use Rattle.std.specs.Prelude.{◌≡◌, ◌++◌, ◌∷◌, [], IfOk, IsErr, OnErr, OnOk, string_bytes};
+ghost use Rattle.std.specs.Prelude.{◌≡◌, ◌≤◌, ◌<◌, ◌++◌, ◌∷◌, [], Err, IfOk, IsErr, IsOk, IsSome, OnErr, OnOk};
+ghost use Rattle.std.specs.Prelude.{string_bytes};
+ghost use Rattle.otel_embed.specs.Keys.{span_at};
 ghost use Rattle.otel_pipeline.specs.Calls.{calls_of};
 ghost use Rattle.opentelemetry.specs.Plain.{PlainStatus, PlainValue};
 ghost use Rattle.opentelemetry.specs.declared.trace.span_kind.SpanKind.{SpanKind as TheKinds};
@@ -249,6 +251,8 @@ impl<P: KeepsBatches, S: ShouldSample, G: GivesIds> PipelineOf<P, S, G> {
         ensures ok { OnOk result ((status : PlainStatus) × IsStatus code description.now status
             × EditsSpan self.old span (set_status status ∷ []) self.new) }
         ensures err { OnErr result (Stays self.old self.new) }
+        ensures free { code ≤ 1 → IsSome (span_at self.old.spans span) → IsOk result }
+        ensures bad { 2 < code → result ≡ Err PipelineError.BadArgument }
     {
         let status = status_of(self.alloc, code, description)?;
         self.change(span, SpanEdit::SetStatus(status))

@@ -1,6 +1,6 @@
 //! What a host hands in, as the pipeline's own values: texts are bytes, and lists of texts one text with lengths.
 
-ghost use Rattle.std.specs.Prelude.{◌≡◌, IfOk, map, string_bytes};
+ghost use Rattle.std.specs.Prelude.{◌≡◌, ◌≤◌, ◌<◌, Err, IfOk, IsOk, map, string_bytes};
 ghost use Rattle.std.specs.Option.{option_map};
 ghost use Rattle.opentelemetry.specs.PlainValues.{plain_status, plain_value};
 ghost use Rattle.otel_embed.specs.HostValues.{AreTexts, IsStatus, IsValueOf, text_or_none, truth_of};
@@ -118,7 +118,9 @@ pub(crate) fn status_of(
     code: u32,
     description: &[u8],
 ) -> Result<Status, PipelineError>
-    ensures { IfOk result (λ status. IsStatus code description.now (plain_status status)) }
+    ensures ok { IfOk result (λ status. IsStatus code description.now (plain_status status)) }
+    ensures free { code ≤ 1 → IsOk result }
+    ensures bad { 2 < code → result ≡ Err PipelineError.BadArgument }
 {
     match code {
         0 => Ok(Status::Unset),

@@ -2,6 +2,5 @@ use Rattle.otel_embed.proofs.Opening.{opened_by}
 use Rattle.otel_embed.proofs.pipeline.Pipeline.open.Goals as goal
 
 pub returns : goal.returns
-returns c =
-    opened_by _ c.args.settings.now c.in-Ok.text.now c.in_ok-settings.settings c.in_ok-strings.strings c.processor_kind.result _ c.args.seed _ _ c.in-Ok.ensures.cases.0 c.in_ok-settings.ensures c.in_ok-strings.ensures
-    c.processor_kind.ensures c.new.ensures.kept c.in_ok-inside.ensures c.in_ok-ignored.ensures
+returns c = opened_by _ c.args.settings.now c.in-Ok.text.now c.in_ok-settings.settings c.args.seed _ _
+    c.in-Ok.ensures.cases.0 c.in_ok-settings.ensures c.in_ok-opened.ensures

@@ -17,6 +17,6 @@ returns-clause-err g c =
     } in
     let ended : PipelineState g.row.P.Denot g.row.S.Denot g.row.G.Denot =
     record begun { flow = record begun.flow { provider = c.start.new.provider }; spans = c.start.new.self; gathered = [] } in
-    let request = start_request c.in_ok-tracer.tracer.now c.with_attributes-builder.result c.args.cx c.args.start.moment.0 in
+    let request = start_request c.in-Ok.tracer.now c.with_attributes-builder.result c.args.cx c.args.start.moment.0 in
     subst (λ (old : PipelineState g.row.P.Denot g.row.S.Denot g.row.G.Denot). OnErr c.start.result (RefusesIn calls old ended)) c.self.view_is
     (start_refused calls c.start.result begun request c.start.new.self c.start.new.provider c.start.ensures.err c.start.ensures.asks)
