@@ -1,7 +1,10 @@
 -- What was done to a pipeline was done to that of its handle.
-use Rattle.std.proofs.Common.{◌≡◌, ◌≢◌, ℕ, Bool, false, Option, None, Some, is_some, Result, Ok, Err, IfOk, OnErr, refl, sym, subst}
+use Rattle.std.proofs.Common.{◌≡◌, ◌≢◌, ◌⊎◌, ◌∙◌, inl, inr, ℕ, Bool, false, Option, None, Some, is_some, Result, Ok, Err, IfErr, IfOk, IfSome, IsOk, IsSome, OnErr, ap, refl, sym, subst}
 use Rattle.otel_embed.specs.declared.pipeline.Pipeline.{Pipeline}
-use Rattle.otel_c.specs.Handles.{Holds, Turns, TurnsIfOpen}
+use Rattle.otel_embed.specs.Keys.{OpenedSpan, OpenedSpans, span_at}
+use Rattle.otel_embed.specs.declared.error.PipelineError.{PipelineError}
+use Rattle.otel_embed.specs.declared.error.PipelineError.TheVariants as errors
+use Rattle.otel_c.specs.Handles.{Holds, Turns, TurnsIfOpen, answer_status, error_status}
 
 pub turned : (Does : Pipeline → Pipeline → Type 0) (was now : Option Pipeline) (p q : Pipeline) → was ≡ Some p → now ≡ Some q → Does p q → Turns Does was now
 turned Does was now p q e f did = subst (λ (x : Option Pipeline). Turns Does x now) (sym e) (subst (λ (y : Option Pipeline). Turns Does (Some p) y) (sym f) did)
@@ -22,3 +25,23 @@ put_holds Is now p q f same is = subst (λ (x : Option Pipeline). Holds Is x) (s
 pub answered : {E : Type 0} (Holds : ℕ → Type 0) (answer : Result ℕ E) (status now was : ℕ) → IfOk answer (λ number. (status ≡ 0) × (now ≡ number)) → OnErr answer ((status ≢ 0) × (now ≡ was)) → IfOk answer Holds → status ≡ 0 → Holds now
 answered Holds (Ok number) status now was written _ did _ = subst Holds (sym written.1) did
 answered Holds (Err _) status now was _ refused _ is_ok = absurd (refused.0 is_ok)
+
+-- what holds of the pipeline that a handle has, if it has one
+pub if_held : (Is : Pipeline → Type 0) (held : Option Pipeline) → ((p : Pipeline) → held ≡ Some p → Is p) → IfSome held Is
+if_held Is None is = tt
+if_held Is (Some p) is = is p refl
+
+-- a handle that holds this pipeline holds no other
+pub same_held : (held : Option Pipeline) (p q : Pipeline) → held ≡ Some p → held ≡ Some q → p ≡ q
+same_held held p q e f = let both : Some p ≡ Some q = sym e ∙ f in cc
+
+-- the status of a flow is 0, or that of what was not exported
+pub flow_status : (answer : Result (Unit {0}) PipelineError) (status : ℕ) → status ≡ answer_status answer → IfErr answer (λ error. error ≡ errors.NotExported) → (status ≡ 0) ⊎ (status ≡ 9)
+flow_status (Ok _) status is _ = inl is
+flow_status (Err error) status is why = inr (is ∙ ap error_status why)
+
+-- a call that is refused only where no span has its key goes well where one has
+pub ok_where_open : (spans : OpenedSpans) (key : ℕ) (answer : Result (Unit {0}) PipelineError) → IfErr answer (λ error. (error ≡ errors.NoSuchSpan) × (span_at spans key ≡ None)) → IsSome (span_at spans key)
+    → IsOk answer
+ok_where_open spans key (Ok _) why some = refl
+ok_where_open spans key (Err error) why some = absurd (let no : IsSome {T = OpenedSpan} None = subst IsSome why.1 some in cc)

@@ -1,7 +1,8 @@
 -- What a handle holds, and what a call does to that.
 use base.Stored.{Coded}
 use Rattle.std.specs.Coded.{coded_option}
-use Rattle.std.specs.Prelude.{◌≡◌, ◌++◌, ◌∷◌, ◌+◌, ◌*◌, ◌^◌, ◌<◌, ◌≤◌, [], ℕ, List, Option, Some, None, drop, length}
+use Rattle.std.specs.Prelude.{◌≡◌, ◌++◌, ◌∷◌, ◌+◌, ◌*◌, ◌^◌, ◌<◌, ◌≤◌, [], ℕ, List, Option, Some, None, Result, Ok, Err}
+use Rattle.std.specs.Prelude.{drop, length}
 use Rattle.std.specs.Prelude.{if◌then◌else◌}
 use Rattle.otel_c.specs.declared.flow.Counts.{Counts}
 use Rattle.otel_c.specs.declared.spans.Identity.{Identity}
@@ -9,6 +10,8 @@ use Rattle.opentelemetry.specs.Plain.{PlainValue}
 use Rattle.otel_pipeline.specs.SpanHistory.{set_attribute}
 use Rattle.otel_embed.specs.Pipelines.{EditsSpan}
 use Rattle.otel_embed.specs.contracts.pipeline.Pipeline.{the_row}
+use Rattle.otel_embed.specs.declared.error.PipelineError.{PipelineError}
+use Rattle.otel_embed.specs.declared.error.PipelineError.TheVariants as errors
 use Rattle.otel_embed.specs.declared.numbers.Numbers.{Numbers}
 use Rattle.otel_embed.specs.declared.pipeline.Pipeline.{Pipeline}
 use Rattle.otel_embed.specs.declared.span_calls.SpanIdentity.{SpanIdentity}
@@ -34,6 +37,19 @@ TurnsIfOpen Does (Some was) (Some now) = Does was now
 abbrev pub Holds : (Pipeline → Type 0) → Option Pipeline → Type 0
 Holds Is None = ⊥
 Holds Is (Some pipeline) = Is pipeline
+
+-- the status of an error, and of an answer
+abbrev pub error_status : PipelineError → ℕ
+error_status errors.OutOfMemory = 3
+error_status errors.NoSuchSpan = 4
+error_status errors.NoSuchTracer = 5
+error_status errors.NotUtf8 = 6
+error_status errors.BadArgument = 7
+error_status errors.NotExported = 9
+
+abbrev pub answer_status : Result (Unit {0}) PipelineError → ℕ
+answer_status (Ok _) = 0
+answer_status (Err error) = error_status error
 
 -- who a span is, in numbers for C
 pub record ShowsIdentity (who : SpanIdentity) (identity : Identity) : Type 0 where

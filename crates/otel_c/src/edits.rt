@@ -1,6 +1,7 @@
 //! Edits of a span.
 
-ghost use Rattle.std.specs.Prelude.{◌≡◌, ◌≢◌, ◌==◌, ◌∷◌, [], map, not};
+ghost use Rattle.std.specs.Prelude.{◌≡◌, ◌≢◌, ◌==◌, ◌≤◌, ◌∷◌, [], IfSome, IsSome, map, not};
+ghost use Rattle.otel_embed.specs.Keys.{span_at};
 ghost use Rattle.opentelemetry.specs.Plain.{PlainStatus, boolean, integer, text};
 ghost use Rattle.otel_pipeline.specs.Exceptions.{exception_event};
 ghost use Rattle.otel_pipeline.specs.SpanEdits.{new_event};
@@ -170,6 +171,8 @@ pub extern "C" fn otel_set_status(
         handle.old.held.pipeline handle.new.held.pipeline }
     ensures stays { result ≢ 0 → TurnsIfOpen (λ p q. Stays p.inside q.inside)
         handle.old.held.pipeline handle.new.held.pipeline }
+    ensures free { code ≤ 1 → IfSome handle.old.held.pipeline (λ p.
+        IsSome (span_at p.inside.spans span) → result ≡ 0) }
 {
     let Some(mut pipeline) = handle.take(alloc) else {
         return OTEL_CLOSED;

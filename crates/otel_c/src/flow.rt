@@ -1,6 +1,6 @@
 //! What becomes of ended spans, and how many are where.
 
-ghost use Rattle.std.specs.Prelude.{◌≡◌, ◌≢◌, ◌⊎◌, None};
+ghost use Rattle.std.specs.Prelude.{◌≡◌, ◌≢◌, ◌≤◌, ◌<◌, ◌⊎◌, IfSome, None, length};
 ghost use Rattle.otel_c.specs.Handles.{Holds, ShowsNumbers, Turns, TurnsIfOpen};
 ghost use Rattle.otel_embed.specs.Flows.{flushed, ran, shut};
 ghost use Rattle.otel_embed.specs.Pipelines.{CountsIn, DrainsInto, FlowsBy};
@@ -43,6 +43,7 @@ pub extern "C" fn otel_flush(alloc: Global, handle: &mut Handle) -> u32
         FlowsBy ⟦<HostInside as HostPipeline>⟧.calls flushed (result ≡ 0) p.inside q.inside)
         handle.old.held.pipeline handle.new.held.pipeline }
     ensures closed { handle.old.held.pipeline ≡ None → result ≡ 1 }
+    ensures failed { IfSome handle.old.held.pipeline (λ _. (result ≡ 0) ⊎ (result ≡ 9)) }
 {
     let Some(mut pipeline) = handle.take(alloc) else {
         return OTEL_CLOSED;
@@ -58,6 +59,7 @@ pub extern "C" fn otel_run(alloc: Global, handle: &mut Handle, moment: u64) -> u
         FlowsBy ⟦<HostInside as HostPipeline>⟧.calls (ran moment) (result ≡ 0) p.inside q.inside)
         handle.old.held.pipeline handle.new.held.pipeline }
     ensures closed { handle.old.held.pipeline ≡ None → result ≡ 1 }
+    ensures failed { IfSome handle.old.held.pipeline (λ _. (result ≡ 0) ⊎ (result ≡ 9)) }
 {
     let Some(mut pipeline) = handle.take(alloc) else {
         return OTEL_CLOSED;
@@ -77,8 +79,11 @@ pub extern "C" fn otel_drain(
     ensures ok { (result ≡ 0) ⊎ (result ≡ 8) → Turns (λ p q.
         DrainsInto ⟦<HostInside as HostPipeline>⟧.calls p.inside buffer.old lines_length.new buffer.new q.inside)
         handle.old.held.pipeline handle.new.held.pipeline }
+    ensures fits { (result ≡ 0 → lines_length.new ≤ length buffer.old)
+        × (result ≡ 8 → length buffer.old < lines_length.new) }
     ensures stays { result ≢ 0 → result ≢ 8 → TurnsIfOpen (λ p q. q.inside ≡ p.inside)
-        handle.old.held.pipeline handle.new.held.pipeline × (buffer.new ≡ buffer.old) }
+        handle.old.held.pipeline handle.new.held.pipeline × (buffer.new ≡ buffer.old)
+        × (lines_length.new ≡ lines_length.old) }
 {
     let Some(mut pipeline) = handle.take(alloc) else {
         return OTEL_CLOSED;
@@ -119,6 +124,7 @@ pub extern "C" fn otel_shutdown(alloc: Global, handle: &mut Handle) -> u32
         FlowsBy ⟦<HostInside as HostPipeline>⟧.calls shut (result ≡ 0) p.inside q.inside)
         handle.old.held.pipeline handle.new.held.pipeline }
     ensures closed { handle.old.held.pipeline ≡ None → result ≡ 1 }
+    ensures failed { IfSome handle.old.held.pipeline (λ _. (result ≡ 0) ⊎ (result ≡ 9)) }
 {
     let Some(mut pipeline) = handle.take(alloc) else {
         return OTEL_CLOSED;

@@ -1,10 +1,12 @@
 //! The life of a span: its start, who it is, its end.
 
-ghost use Rattle.std.specs.Prelude.{◌≡◌, ◌≢◌};
+ghost use Rattle.std.specs.Prelude.{◌≡◌, ◌≢◌, IfSome, IsSome};
 ghost use Rattle.otel_c.specs.Handles.{Holds, ShowsIdentity, Turns, TurnsIfOpen};
+ghost use Rattle.otel_embed.specs.Keys.{span_at};
 ghost use Rattle.opentelemetry.specs.declared.trace.span_kind.SpanKind.{SpanKind as TheKinds};
 ghost use Rattle.otel_embed.specs.HostValues.{IsKind};
-ghost use Rattle.otel_embed.specs.Pipelines.{Abandons, EndsSpan, Identifies, IsContextUnder, RefusesIn, StartsIn, Stays};
+ghost use Rattle.otel_embed.specs.Pipelines.{Abandons, EndNeedsNone, EndsSpan, Identifies, IsContextUnder, RefusesIn};
+ghost use Rattle.otel_embed.specs.Pipelines.{StartsIn, Stays};
 ghost use Rattle.otel_embed.specs.declared.span_calls.SpanIdentity.{SpanIdentity as TheIdentity};
 
 use crate::handle::Handle;
@@ -101,6 +103,7 @@ pub extern "C" fn otel_end(alloc: Global, handle: &mut Handle, span: u64, moment
         handle.old.held.pipeline handle.new.held.pipeline }
     ensures stays { result ≢ 0 → TurnsIfOpen (λ p q. Stays p.inside q.inside)
         handle.old.held.pipeline handle.new.held.pipeline }
+    ensures free { IfSome handle.old.held.pipeline (λ p. EndNeedsNone p.inside span → result ≡ 0) }
 {
     let Some(mut pipeline) = handle.take(alloc) else {
         return OTEL_CLOSED;
@@ -116,6 +119,7 @@ pub extern "C" fn otel_abandon(alloc: Global, handle: &mut Handle, span: u64) ->
         handle.old.held.pipeline handle.new.held.pipeline }
     ensures stays { result ≢ 0 → TurnsIfOpen (λ p q. Stays p.inside q.inside)
         handle.old.held.pipeline handle.new.held.pipeline }
+    ensures free { IfSome handle.old.held.pipeline (λ p. IsSome (span_at p.inside.spans span) → result ≡ 0) }
 {
     let Some(mut pipeline) = handle.take(alloc) else {
         return OTEL_CLOSED;

@@ -1,7 +1,7 @@
 //! What an export answers.
 
 ghost use Rattle.std.specs.Prelude.{◌≡◌, ◌≢◌, ◌↔◌, IfOk, IsOk, OnErr};
-ghost use Rattle.otel_c.specs.Handles.{CopiesText};
+ghost use Rattle.otel_c.specs.Handles.{CopiesText, answer_status, error_status};
 
 use otel_embed::PipelineError;
 
@@ -33,6 +33,7 @@ pub const OTEL_FAILED: u32 = 9;
 
 /// The status of an error.
 pub(crate) fn status_of(error: PipelineError) -> u32
+    ensures number { result ≡ error_status error }
     ensures failed { result ≢ 0 }
     ensures is_no_length { result ≢ 8 }
 {
@@ -48,7 +49,8 @@ pub(crate) fn status_of(error: PipelineError) -> u32
 
 /// The status of what a call answered.
 pub(crate) fn status_of_result(answer: Result<(), PipelineError>) -> u32
-    ensures { IsOk answer ↔ (result ≡ 0) }
+    ensures number { result ≡ answer_status answer }
+    ensures ok { IsOk answer ↔ (result ≡ 0) }
 {
     match answer {
         Ok(()) => OTEL_OK,
