@@ -9,11 +9,11 @@ ghost use Rattle.otel_trace_run.specs.Streams.{streams};
 ghost use Rattle.otel_trace_steps.specs.StepAnswers.{AnswersLines, BeginsAnswers, machine_of};
 
 use crate::line_count::{bad_line_after, lines_counted};
-use otel_trace_session::Pieces;
 use crate::run_end::RunEnd;
 use otel_batch::machine::BatchMachine;
 use otel_export::stream::write_whole;
 use otel_export::trace::InMemorySpanExporter;
+use otel_trace_session::Pieces;
 use otel_trace_steps::{Sizes, answer_lines, machine_sized};
 use std::alloc::Global;
 use std::io;

@@ -16,14 +16,13 @@ ghost use Rattle.otel_trace_session.specs.Calls.{calls_of};
 ghost use Rattle.otel_trace_session.specs.declared.session.FeedError.{FeedError};
 
 use crate::line_count::{bad_line_after, lines_counted};
-use otel_trace_session::Pieces;
 use crate::reason::reason_at;
 use crate::run_end::RunEnd;
 use otel_export::stream::write_whole;
 use otel_pipeline::trace::{KeepsBatches, ProviderOf};
 use otel_sampling::trace::{GivesIds, ShouldSample};
 use otel_trace_lines::ReplyForm;
-use otel_trace_session::{FeedError, Session};
+use otel_trace_session::{FeedError, Pieces, Session};
 use std::alloc::Global;
 use std::io;
 use std::io::{Read, Write};

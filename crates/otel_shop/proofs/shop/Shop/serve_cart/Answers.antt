@@ -30,9 +30,9 @@ returns-in_err-reply-clause-err g c =
     let named : c.in_ok-tracer.tracer ≡ scope_named scope_text =
     c.in_ok-tracer.ensures ∙ ap scope_named c.in_ok-name.ensures.ok in
     let left : TriesCart g.P.SpanProcessor g.S.ShouldSample g.G.GivesIds g.C.Now.tells g.B.Service.answers
-        c.args.cx.now (at_shop c.args.self.now c.args.provider.now c.args.clock.now)
-        (at_shop
-        (record c.args.self.now { backend = c.ask_price.new.backend; unfinished = c.ask_price.new.unfinished })
-        c.ask_price.new.provider c.ask_price.new.clock) =
+    c.args.cx.now (at_shop c.args.self.now c.args.provider.now c.args.clock.now)
+    (at_shop
+    (record c.args.self.now { backend = c.ask_price.new.backend; unfinished = c.ask_price.new.unfinished })
+    c.ask_price.new.provider c.ask_price.new.clock) =
     record { tries = inl (rw named at c.in_err-reply.ensures.err); rest = refl } in
     always_on_err _ left
