@@ -1,5 +1,6 @@
 -- How a provider is closed, and what was lost of its spans.
-use Rattle.std.specs.Prelude.{◌≡◌, Ok, Result, OnFalse, OnTrue, sum_by}
+use Rattle.std.specs.Prelude.{◌≡◌, Ok, Result, sum_by}
+use Rattle.std.specs.Bool.{OnFalse, OnTrue}
 use Rattle.std.specs.declared.alloc.AllocError.{AllocError}
 use Rattle.otel_export.specs.declared.error.OTelSdkError.{OTelSdkError}
 use Rattle.otel_pipeline.specs.Provider.{Flushes, ProviderState, ReportsLeft, ShutsDown}
