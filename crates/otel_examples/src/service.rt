@@ -79,7 +79,8 @@ fn outcome_of(done: InSpan<Result<(), AllocError>>) -> Result<(), AllocError> {
     }
 }
 
-/// Answers requests with these headers.
+/// Answers requests with these headers, under a provider with an eager batch processor over this exporter, by the default
+/// configuration. The seed is fixed here; `otel_host` gives a true one.
 pub fn serve<P: FromExporter + Timed + CountsLeftSpans, C: Now, B: Backend>(
     alloc: Global,
     exporter: P::Exporter,
@@ -87,26 +88,24 @@ pub fn serve<P: FromExporter + Timed + CountsLeftSpans, C: Now, B: Backend>(
     clock: &mut C,
     backend: &mut B,
 ) -> Result<CloseReport, OTelSdkError> {
-    let made = provider_over::<P>(alloc, exporter);
-    let mut provider = made.map_err(|_| OTelSdkError::OutOfMemory)?;
+    let strings = ConfigStrings::default();
+    let builder = ProviderOf::<P, Sampler, IdSource>::builder(alloc, &strings, 0);
+    let builder = builder
+        .map_err(no_memory)?
+        .with_eager_batch_exporter(exporter);
+    let mut provider = builder.map_err(no_memory)?.build().map_err(no_memory)?;
     // Nothing between here and `close` returns early.
     let answered = answer_all(alloc, &mut provider, requests, clock, backend);
     let flushed = provider.force_flush();
     let report = provider.close();
-    answered.map_err(|_| OTelSdkError::OutOfMemory)?;
+    answered.map_err(no_memory)?;
     flushed?;
     Ok(report)
 }
 
-/// A provider with an eager batch processor, by the default configuration. The seed is fixed here; `otel_host` gives a
-/// true one.
-pub fn provider_over<P: FromExporter>(
-    alloc: Global,
-    exporter: P::Exporter,
-) -> Result<ProviderOf<P, Sampler, IdSource>, AllocError> {
-    let strings = ConfigStrings::default();
-    let builder = ProviderOf::<P, Sampler, IdSource>::builder(alloc, &strings, 0)?;
-    Ok(builder.with_eager_batch_exporter(exporter)?.build()?)
+/// Out of memory, as the SDK calls it.
+fn no_memory<E: Drop>(_error: E) -> OTelSdkError {
+    OTelSdkError::OutOfMemory
 }
 
 /// Answers requests at this provider, and tells it the time after each.
