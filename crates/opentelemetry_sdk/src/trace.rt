@@ -25,6 +25,7 @@ pub use otel_sampling::trace::{
     SamplingDecision, SamplingResult, Setting, SettingFault, ShouldSample, SpanLimits,
     XrayIdGenerator,
 };
+pub use otel_scope::{Begins, Closed, Current, HoldsSpans, IntoValue, Scope, Tracing};
 
 /// The provider of the SDK.
 pub type SdkTracerProvider = ProviderOf<Processor, Sampler, IdSource>;

@@ -1,20 +1,19 @@
 //! A greeting, and the spans of its making: `hello`, under it `greet`, and under that `format`. Each has a function of
-//! its own, whose work stands in a closure: the span ends whatever that answers. All is generic in processor, tracer
-//! and clock, as code over a batch processor with such closures has to be.
+//! its own, whose work stands in a closure: the span ends whatever that answers.
 
 ghost use Rattle.std.specs.Prelude.{ℕ, List, OnOk};
-ghost use Rattle.otel_pipeline.specs.Provider.{ProviderState};
 ghost use Rattle.otel_sampling.specs.declared.trace.id_generator.IdSourceOf.{IdSourceOf};
 ghost use Rattle.otel_sampling.specs.declared.trace.sampler.SamplerOf.{SamplerOf};
+ghost use Rattle.otel_scope.specs.declared.tracing.Tracing.{Tracing};
 ghost use Rattle.otel_hello.specs.Closing.{ClosesWhole};
 
 use crate::losses::{Losses, close_whole};
-use opentelemetry::{Context, Key, KeyValue, Value};
+use opentelemetry::InstrumentationScope;
+use opentelemetry_sdk::propagation::TraceContextPropagator;
 use opentelemetry_sdk::resource::Resource;
 use opentelemetry_sdk::trace::{
-    ConfigOf, ConfigStrings, CountsLeftSpans, FromExporter, GivesIds, IdSourceOf, InSpan, Now,
-    ProviderOf, RandomIdGenerator, SamplerOf, ShouldSample, Span, SpanLimits, SpanProcessor,
-    Tracer,
+    ConfigOf, ConfigStrings, CountsLeftSpans, FromExporter, IdSourceOf, Now, ProviderOf,
+    RandomIdGenerator, SamplerOf, Scope, SpanLimits, Tracing,
 };
 use otel_probability::ConsistentProbabilityBased;
 use std::alloc::{AllocError, Global};
@@ -28,9 +27,12 @@ type HelloIds = IdSourceOf<RandomIdGenerator>;
 /// program is built.
 type Provider<P> = ProviderOf<P, HelloSampler, HelloIds>;
 
+/// The program's scope.
+type Scoped<P, C> = Tracing<P, HelloSampler, HelloIds, C, TraceContextPropagator>;
+
 /// Traces a greeting under a provider with an eager batch processor over this exporter, and closes that. On Ok all that
-/// the greeting traced was exported: what waited at its end was flushed, no export at an end of a span had failed, no
-/// span was dropped, and none was left in a queue. The error says what was lost.
+/// the greeting traced was exported: there was memory for each span, what waited at its end was flushed, no export at an
+/// end of a span had failed, no span was dropped, and none was left in a queue. The error says what was lost.
 pub fn trace_hello<P: FromExporter + CountsLeftSpans, C: Now + Drop>(
     alloc: Global,
     clock: C,
@@ -38,15 +40,30 @@ pub fn trace_hello<P: FromExporter + CountsLeftSpans, C: Now + Drop>(
     seed: u64,
     exporter: P::Exporter,
 ) -> Result<(), Losses>
-    ensures { OnOk result ((greeted : ProviderState P (SamplerOf ℕ) (IdSourceOf (List ℕ)))
-        × ClosesWhole P.SpanProcessor P.CountsLeftSpans.own greeted) }
+    ensures { OnOk result ((greeted : Tracing P (SamplerOf ℕ) (IdSourceOf (List ℕ)) C (Unit {0}))
+        × ClosesWhole P.SpanProcessor P.CountsLeftSpans.own C.tells greeted) }
 {
-    let Ok(mut provider) = provider_with::<P>(alloc, strings, seed, exporter) else {
+    let Ok(mut scope) = scope_over::<P, C>(alloc, clock, strings, seed, exporter) else {
         return Err(Losses::of_memory());
     };
     // Nothing between here and `close_whole` returns early.
-    let traced = greet_world(alloc, clock, &mut provider);
-    close_whole(provider, traced)
+    let greeted = hello(&mut scope);
+    close_whole(scope, greeted)
+}
+
+/// A scope over such a provider.
+fn scope_over<P: FromExporter, C: Now + Drop>(
+    alloc: Global,
+    clock: C,
+    strings: &ConfigStrings,
+    seed: u64,
+    exporter: P::Exporter,
+) -> Result<Scoped<P, C>, AllocError> {
+    let name = String::from_str(alloc, "otel_hello")?;
+    let library = InstrumentationScope::builder(alloc, name).build()?;
+    let provider = provider_with::<P>(alloc, strings, seed, exporter)?;
+    let propagator = TraceContextPropagator::new();
+    Ok(Tracing::new(alloc, provider, library, clock, propagator))
 }
 
 /// A provider with an eager batch processor over this exporter, as strings configure it.
@@ -81,98 +98,27 @@ fn config_of(
     Ok(config)
 }
 
-/// Greets the world by a tracer of the provider.
-fn greet_world<P: SpanProcessor, C: Now + Drop>(
-    alloc: Global,
-    mut clock: C,
-    provider: &mut Provider<P>,
-) -> Result<(), AllocError> {
-    let tracer = provider.tracer(String::from_str(alloc, "otel_hello")?)?;
-    let greeter = Greeter { alloc, tracer };
-    greeter.hello(provider, &mut clock)
+/// The root span, `hello`: it greets the world.
+fn hello<S: Scope>(scope: &mut S) -> Result<(), AllocError> {
+    scope.in_span("hello", |scope| {
+        scope.set_attribute("greeting.language", "en")?;
+        greet(scope)
+    })
 }
 
-/// What greets.
-#[derive(Drop)]
-struct Greeter<L> {
-    alloc: Global,
-    tracer: L,
+/// The span `greet`: it has a greeting made.
+fn greet<S: Scope>(scope: &mut S) -> Result<(), AllocError> {
+    scope.in_span("greet", |scope| {
+        scope.set_attribute("greeting.name", "world")?;
+        format(scope)
+    })
 }
 
-impl<L: Tracer> Greeter<L> {
-    /// The root span, `hello`: it greets the world. The clock says when spans start and end.
-    fn hello<P: SpanProcessor, S: ShouldSample, G: GivesIds, C: Now>(
-        &self,
-        provider: &mut ProviderOf<P, S, G>,
-        clock: &mut C,
-    ) -> Result<(), AllocError> {
-        let work = |span: &mut Span, cx: &Context, provider: &mut ProviderOf<
-            P,
-            S,
-            G,
-        >, clock: &mut C,| {
-            span.set_attribute(self.attribute("greeting.language", "en")?)?;
-            self.greet(cx, provider, clock)
-        };
-        let name = String::from_str(self.alloc, "hello")?;
-        let done = self
-            .tracer
-            .in_span(name, &Context::new(), provider, clock, work)?;
-        outcome_of(done)
-    }
-
-    /// The span `greet`: it has a greeting made.
-    fn greet<P: SpanProcessor, S: ShouldSample, G: GivesIds, C: Now>(
-        &self,
-        cx: &Context,
-        provider: &mut ProviderOf<P, S, G>,
-        clock: &mut C,
-    ) -> Result<(), AllocError> {
-        let work = |span: &mut Span, cx: &Context, provider: &mut ProviderOf<
-            P,
-            S,
-            G,
-        >, clock: &mut C,| {
-            span.set_attribute(self.attribute("greeting.name", "world")?)?;
-            self.format(cx, provider, clock)
-        };
-        let name = String::from_str(self.alloc, "greet")?;
-        let done = self.tracer.in_span(name, cx, provider, clock, work)?;
-        outcome_of(done)
-    }
-
-    /// The span `format`: it makes the greeting, and says so by an event.
-    fn format<P: SpanProcessor, S: ShouldSample, G: GivesIds, C: Now>(
-        &self,
-        cx: &Context,
-        provider: &mut ProviderOf<P, S, G>,
-        clock: &mut C,
-    ) -> Result<(), AllocError> {
-        let work = |span: &mut Span, _cx: &Context, _provider: &mut ProviderOf<
-            P,
-            S,
-            G,
-        >, clock: &mut C,| {
-            span.set_attribute(self.attribute("greeting.text", "Hello, world!")?)?;
-            let formatted = String::from_str(self.alloc, "formatted")?;
-            span.add_event_with_timestamp(formatted, clock.now(), Vec::new(self.alloc))
-        };
-        let name = String::from_str(self.alloc, "format")?;
-        let done = self.tracer.in_span(name, cx, provider, clock, work)?;
-        outcome_of(done)
-    }
-
-    /// An attribute that is a text.
-    fn attribute(&self, key: &'static str, text: &str) -> Result<KeyValue, AllocError> {
-        let value = Value::String(String::from_str(self.alloc, text)?);
-        Ok(KeyValue::new(Key::from_static_str(key), value))
-    }
-}
-
-/// What came of work in a span. `AllocError` too where a processor found no memory for the span.
-fn outcome_of(done: InSpan<Result<(), AllocError>>) -> Result<(), AllocError> {
-    match done.ended? {
-        0 => done.answer,
-        _refusals => Err(AllocError),
-    }
+/// The span `format`: it makes the greeting, and says so by an event.
+fn format<S: Scope>(scope: &mut S) -> Result<(), AllocError> {
+    scope.in_span("format", |scope| {
+        scope.set_attribute("greeting.text", "Hello, world!")?;
+        let attributes = Vec::new(scope.alloc());
+        scope.add_event("formatted", attributes)
+    })
 }

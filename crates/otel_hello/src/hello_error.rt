@@ -23,6 +23,8 @@ pub enum HelloError {
     Seed(#[from] SeedError),
     #[error("{0}")]
     Export(#[from] OTelSdkError),
+    #[error("no memory for {0} spans")]
+    NoMemory(u64),
     #[error("{0} exports of spans failed")]
     FailedExports(u128),
     #[error("{0} spans were dropped, since too many waited")]

@@ -1,10 +1,13 @@
-//! How the program's provider is closed, and what was lost of its spans.
+//! How the program's scope is closed, and what was lost of its spans.
 
 ghost use Rattle.std.specs.Prelude.{◌≡◌, IsTrue, Ok, OnOk};
 ghost use Rattle.otel_hello.specs.Closing.{AreNone, ClosesCounted, ClosesWhole};
 
 use opentelemetry_sdk::error::{OTelSdkError, OTelSdkResult};
-use opentelemetry_sdk::trace::{CloseReport, CountsLeftSpans, ProviderOf};
+use opentelemetry::propagation::TextMapPropagator;
+use opentelemetry_sdk::trace::{
+    CloseReport, Closed, CountsLeftSpans, GivesIds, Now, ShouldSample, Tracing,
+};
 use std::alloc::AllocError;
 
 /// What was lost.
@@ -13,6 +16,8 @@ pub struct Losses {
     /// The first of: what the spans wanted and did not get, which is memory; what the flush answered; what the shutdown
     /// did.
     pub failure: OTelSdkResult,
+    /// How many spans found no memory, or were refused by a processor.
+    pub lost: u64,
     /// How many exports at ends of spans failed.
     pub failed_exports: u128,
     /// How many spans found the queue full.
@@ -26,6 +31,7 @@ impl Losses {
     pub fn of_memory() -> Losses {
         Losses {
             failure: Err(OTelSdkError::OutOfMemory),
+            lost: 0,
             failed_exports: 0,
             dropped: 0,
             left: 0,
@@ -35,41 +41,57 @@ impl Losses {
     fn are_none(&self) -> bool
         ensures { IsTrue result → AreNone self.now }
     {
-        self.failure.is_ok() && self.failed_exports == 0 && self.dropped == 0 && self.left == 0
+        self.failure.is_ok() && self.lost == 0 && self.exported_all()
+    }
+
+    /// Whether no export failed, and no span was dropped or left in a queue.
+    fn exported_all(&self) -> bool
+        ensures { IsTrue result → (self.now.failed_exports ≡ 0) × (self.now.dropped ≡ 0) × (self.now.left ≡ 0) }
+    {
+        self.failed_exports == 0 && self.dropped == 0 && self.left == 0
     }
 }
 
-/// Has a provider export what waits, and closes it; Ok where nothing was lost, at the work before it neither.
-pub fn close_whole<P: CountsLeftSpans, S: Drop, G: Drop>(
-    provider: ProviderOf<P, S, G>,
+/// Has the processors of a scope export what waits, and closes it; Ok where nothing was lost, at the work before it
+/// neither.
+pub fn close_whole<P: CountsLeftSpans, S: ShouldSample + Drop, G: GivesIds + Drop, C: Now + Drop, T: TextMapPropagator + Drop>(
+    scope: Tracing<P, S, G, C, T>,
     worked: Result<(), AllocError>,
 ) -> Result<(), Losses>
-    ensures { OnOk result (ClosesWhole P.SpanProcessor P.CountsLeftSpans.own provider) }
+    ensures { OnOk result (ClosesWhole P.SpanProcessor P.CountsLeftSpans.own C.tells scope) }
 {
-    let losses = close_counted(provider, worked);
+    let losses = close_counted(scope, worked);
     if losses.are_none() {
         return Ok(());
     }
     Err(losses)
 }
 
-/// Has a provider export what waits, and closes it. Says what was lost, where work at it went so.
-fn close_counted<P: CountsLeftSpans, S: Drop, G: Drop>(
-    mut provider: ProviderOf<P, S, G>,
+/// Has the processors of a scope export what waits, and closes it. Says what was lost, where work at it went so.
+fn close_counted<P: CountsLeftSpans, S: ShouldSample + Drop, G: GivesIds + Drop, C: Now + Drop, T: TextMapPropagator + Drop>(
+    mut scope: Tracing<P, S, G, C, T>,
     worked: Result<(), AllocError>,
 ) -> Losses
-    ensures { ClosesCounted P.SpanProcessor P.CountsLeftSpans.own provider worked result }
+    ensures { ClosesCounted P.SpanProcessor P.CountsLeftSpans.own C.tells scope worked result }
 {
-    let flushed = provider.force_flush();
-    let failed_exports = provider.failed_exports();
-    let dropped = provider.dropped_count();
+    let flushed = scope.force_flush();
+    let failed_exports = scope.provider.failed_exports();
+    let dropped = scope.provider.dropped_count();
+    let Closed {
+        report,
+        lost,
+        tracer: _,
+        clock: _,
+        propagator: _,
+    } = scope.close();
     let CloseReport {
         result,
         stranded,
         left_open,
-    } = provider.close();
+    } = report;
     Losses {
         failure: first_failure(worked, flushed, result),
+        lost,
         failed_exports,
         dropped,
         left: stranded.saturating_add(left_open),

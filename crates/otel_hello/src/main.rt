@@ -145,12 +145,16 @@ fn name_losses(rt: &HostRuntime, traced: Result<(), Losses>) -> Result<(), Hello
     };
     let Losses {
         failure,
+        lost,
         failed_exports,
         dropped,
         left,
     } = losses;
     if let Err(error) = failure {
         tell(rt, HelloError::Export(error))?;
+    }
+    if lost > 0 {
+        tell(rt, HelloError::NoMemory(lost))?;
     }
     if failed_exports > 0 {
         tell(rt, HelloError::FailedExports(failed_exports))?;

@@ -1,0 +1,4 @@
+pub mod Currents
+pub mod Working
+pub mod Tracings
+pub mod Nesting
