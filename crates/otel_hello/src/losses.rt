@@ -3,8 +3,8 @@
 ghost use Rattle.std.specs.Prelude.{◌≡◌, IsTrue, Ok, OnOk};
 ghost use Rattle.otel_hello.specs.Closing.{AreNone, ClosesCounted, ClosesWhole};
 
-use opentelemetry_sdk::error::{OTelSdkError, OTelSdkResult};
 use opentelemetry::propagation::TextMapPropagator;
+use opentelemetry_sdk::error::{OTelSdkError, OTelSdkResult};
 use opentelemetry_sdk::trace::{
     CloseReport, Closed, CountsLeftSpans, GivesIds, Now, ShouldSample, Tracing,
 };
@@ -54,10 +54,13 @@ impl Losses {
 
 /// Has the processors of a scope export what waits, and closes it; Ok where nothing was lost, at the work before it
 /// neither.
-pub fn close_whole<P: CountsLeftSpans, S: ShouldSample + Drop, G: GivesIds + Drop, C: Now + Drop, T: TextMapPropagator + Drop>(
-    scope: Tracing<P, S, G, C, T>,
-    worked: Result<(), AllocError>,
-) -> Result<(), Losses>
+pub fn close_whole<
+    P: CountsLeftSpans,
+    S: ShouldSample + Drop,
+    G: GivesIds + Drop,
+    C: Now + Drop,
+    T: TextMapPropagator + Drop,
+>(scope: Tracing<P, S, G, C, T>, worked: Result<(), AllocError>) -> Result<(), Losses>
     ensures { OnOk result (ClosesWhole P.SpanProcessor P.CountsLeftSpans.own C.tells scope) }
 {
     let losses = close_counted(scope, worked);
@@ -68,10 +71,13 @@ pub fn close_whole<P: CountsLeftSpans, S: ShouldSample + Drop, G: GivesIds + Dro
 }
 
 /// Has the processors of a scope export what waits, and closes it. Says what was lost, where work at it went so.
-fn close_counted<P: CountsLeftSpans, S: ShouldSample + Drop, G: GivesIds + Drop, C: Now + Drop, T: TextMapPropagator + Drop>(
-    mut scope: Tracing<P, S, G, C, T>,
-    worked: Result<(), AllocError>,
-) -> Losses
+fn close_counted<
+    P: CountsLeftSpans,
+    S: ShouldSample + Drop,
+    G: GivesIds + Drop,
+    C: Now + Drop,
+    T: TextMapPropagator + Drop,
+>(mut scope: Tracing<P, S, G, C, T>, worked: Result<(), AllocError>) -> Losses
     ensures { ClosesCounted P.SpanProcessor P.CountsLeftSpans.own C.tells scope worked result }
 {
     let flushed = scope.force_flush();

@@ -29,20 +29,13 @@ pub record PlainHostClock (C : Type 0) : Type 0 where
   pub started : ℕ
   pub last : ℕ
 
--- the moment so long after that of the making, but no earlier than the last one; the last one where 64 bits do not hold
--- it or nobody knows how long
-abbrev pub IsLater : ℕ → Result Duration Error → ℕ → ℕ → Type 0
-IsLater made (Ok passed) last later =
-    ((made + as_nanos passed < 2 ^ 64) × (later ≡ max (made + as_nanos passed) last))
-    ⊎ ((2 ^ 64 ≤ made + as_nanos passed) × (later ≡ last))
-IsLater made (Err _) last later = later ≡ last
-
--- the same by a reading of the monotonic clock, and what that said at the making
-abbrev pub IsLaterBy : ℕ → ℕ → Result Duration Error → ℕ → ℕ → Type 0
-IsLaterBy made started (Ok reading) last later =
+-- the moment of a reading of the monotonic clock, by what that said at the making: so long after that of the making, but
+-- no earlier than the last one; the last one where 64 bits do not hold it or the clock cannot be read
+abbrev pub IsLater : ℕ → ℕ → Result Duration Error → ℕ → ℕ → Type 0
+IsLater made started (Ok reading) last later =
     ((made + (as_nanos reading - started) < 2 ^ 64) × (later ≡ max (made + (as_nanos reading - started)) last))
     ⊎ ((2 ^ 64 ≤ made + (as_nanos reading - started)) × (later ≡ last))
-IsLaterBy made started (Err _) last later = later ≡ last
+IsLater made started (Err _) last later = later ≡ last
 
 module _ {C : Type 0} (wall monotonic : C → Result Duration Error → C → Type 0) where
   -- both clocks were read, and a clock was made of what they said
@@ -73,6 +66,6 @@ module _ {C : Type 0} (monotonic : C → Result Duration Error → C → Type 0)
   pub record TellsLater (old : PlainHostClock C) (moment : ℕ) (new : PlainHostClock C) : Type 0 where
     pub reading : Result Duration Error
     pub reads : monotonic old.clock reading new.clock
-    pub is : IsLaterBy old.made old.started reading old.last moment
+    pub is : IsLater old.made old.started reading old.last moment
     pub goes_on : old.last ≤ moment
     pub rest : new ≡ record old { clock = new.clock; last = moment }

@@ -161,21 +161,27 @@ impl<C: ReadsClocks + Drop> Now for HostClock<C> {
     /// cannot be read or went back, or 64 bits of nanoseconds do not hold that moment, it is the moment that was told
     /// last. Never earlier than that.
     fn now(&mut self) -> Moment {
-        let passed = match self.clock.read_monotonic() {
-            Ok(reading) => Ok(reading.saturating_sub(self.started)),
-            Err(error) => Err(error),
-        };
-        self.last = moment_after(self.made, passed, self.last);
+        let reading = self.clock.read_monotonic();
+        self.last = moment_after(self.made, self.started, reading, self.last);
         self.last
     }
 }
 
-/// The moment so long after this one, but no earlier than the last one.
-fn moment_after(made: Moment, passed: io::Result<Duration>, last: Moment) -> Moment
-    ensures { IsLater made.0 passed last.0 result.0 }
+/// The moment at which the monotonic clock says this, where it said `started` when the clock was made; no earlier than
+/// the last one.
+fn moment_after(
+    made: Moment,
+    started: Duration,
+    reading: io::Result<Duration>,
+    last: Moment,
+) -> Moment
+    ensures { IsLater made.0 (as_nanos started) reading last.0 result.0 }
 {
-    match passed {
-        Ok(passed) => made.checked_add(passed).unwrap_or(last).max(last),
+    match reading {
+        Ok(reading) => {
+            let passed = reading.saturating_sub(started);
+            made.checked_add(passed).unwrap_or(last).max(last)
+        }
         Err(_) => last,
     }
 }

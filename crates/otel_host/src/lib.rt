@@ -5,6 +5,7 @@
 #![tactic(auto)]
 
 mod clock;
+pub mod laws;
 mod seed;
 mod strings;
 mod variables;

@@ -1,5 +1,6 @@
 -- What a scope over a provider, a tracer and a clock does where a span starts and ends, and where it closes.
-use Rattle.std.specs.Prelude.{◌≡◌, ◌⊎◌, ℕ, Bool, false, zero, suc, Option, Some, None, Result, Ok, Err, IsOk, MatchBool}
+use Rattle.std.specs.Prelude.{◌≡◌, ◌⊎◌, ℕ, Bool, false, zero, suc, Option, Some, None, Result, Ok, Err, IsOk}
+use Rattle.std.specs.Bool.{OnFalse, OnTrue}
 use Rattle.std.specs.declared.alloc.AllocError.{AllocError}
 use Rattle.opentelemetry.specs.PlainSpanBuilder.{PlainSpanBuilder}
 use Rattle.otel_export.specs.StoredBatches.{one_more}
@@ -39,6 +40,7 @@ module _ {P S G C T : Type 0} (calls : Ghosts P) (sampler : sampling.Ghosts S) (
       current = inside old.current span;
     }
 
+module _ {P S G C T : Type 0} (ids : drawing.Ghosts G) (tells : C → ℕ → C → Type 0) where
   -- there was no memory for the span: ids were drawn at most, and one more is lost
   pub record Loses (old : Tracing P S G C T) (begun : PlainSpanBuilder) (new : Tracing P S G C T) : Type 0 where
     pub draws : DrawsNow ids tells (beginning old.tracer begun old.current.cx old.provider old.clock)
@@ -51,14 +53,17 @@ module _ {P S G C T : Type 0} (calls : Ghosts P) (sampler : sampling.Ghosts S) (
       lost = one_more old.lost;
     }
 
-  -- the span was lost before: one more is
-  pub record LosesAtOnce (old new : Tracing P S G C T) : Type 0 where
-    pub beside : IsBeside old.current new.current
-    pub rest : new ≡ record old { current = new.current; lost = one_more old.lost }
+-- the span was lost before its start: one more is
+pub record LosesAtOnce {P S G C T : Type 0} (old new : Tracing P S G C T) : Type 0 where
+  pub beside : IsBeside old.current new.current
+  pub rest : new ≡ record old { current = new.current; lost = one_more old.lost }
 
+module _ {P S G C T : Type 0} (calls : Ghosts P) (sampler : sampling.Ghosts S) (ids : drawing.Ghosts G)
+    (tells : C → ℕ → C → Type 0) where
+  -- what a start that was asked for does, or one for whose beginning there was no memory
   abbrev pub Enters : Tracing P S G C T → Option PlainSpanBuilder → Tracing P S G C T → Type 0
   Enters old None new = LosesAtOnce old new
-  Enters old (Some begun) new = Starts old begun new ⊎ Loses old begun new
+  Enters old (Some begun) new = Starts calls sampler ids tells old begun new ⊎ Loses ids tells old begun new
 
 module _ {P S G C T : Type 0} (calls : Ghosts P) (tells : C → ℕ → C → Type 0) where
   -- a span ends, at a moment that the clock told, or there was no memory for that and it is dropped; it is counted where
@@ -101,12 +106,11 @@ module _ {P S G C T : Type 0} (calls : Ghosts P) where
     pub rest : new ≡ record old { provider = new.provider; clock = new.clock }
 
 module _ {P S G : Type 0} (calls : Ghosts P) (queues : leaving.Ghosts P) where
-  -- a provider was shut down, where it was open, and the report says so and what its processors leave
-  abbrev pub ClosesProvider : ProviderState P S G → CloseReport → Type 0
-  ClosesProvider old report = MatchBool old.is_shut
-      ((report.result ≡ Ok tt) × ReportsLeft queues old.processors report)
-      ((after : ProviderState P S G) × ShutsDown calls old 5_000_000_000 report.result after
-      × ReportsLeft queues after.processors report)
+  -- a provider was closed: shut down where it was open, with a report of what its processors leave
+  pub record ClosesProvider (old : ProviderState P S G) (report : CloseReport) : Type 0 where
+    pub where_shut : OnTrue old.is_shut ((report.result ≡ Ok tt) × ReportsLeft queues old.processors report)
+    pub where_open : OnFalse old.is_shut ((after : ProviderState P S G)
+        × ShutsDown calls old 5_000_000_000 report.result after × ReportsLeft queues after.processors report)
 
 module _ {P S G C T : Type 0} (calls : Ghosts P) (queues : leaving.Ghosts P) (tells : C → ℕ → C → Type 0) where
   -- a span that was still current ended, and the provider closed

@@ -43,12 +43,18 @@ module _ {S : Type 0} (current : S → Current) (with_current : S → Current �
         (λ _. (new ≡ old) ⊎ ((moment : ℕ) × tells old moment new)))
         ((answer ≡ Ok tt) × (new ≡ old))
 
-    -- an error was recorded, whose message is what it shows, where that is known
-    pub record RecordsHere (shown : Option (List ℕ)) (old : S) (answer : Result (Unit {0}) AllocError) (new : S)
-        : Type 0 where
+    -- an error was recorded at such a moment, whose message is what it shows, where that is known
+    pub record RecordsAt (shown : Option (List ℕ)) (old new : S) : Type 0 where
       pub message : List ℕ
       pub is_shown : IfSome shown (λ bytes. message ≡ bytes)
-      pub edits : EditsNow (λ moment. add_event (exception_event (exception_of message) moment)) old answer new
+      pub edits : EditsAt (λ moment. add_event (exception_event (exception_of message) moment)) old new
+
+    -- the same, or there was no memory for it and the clock was read at most
+    abbrev pub RecordsHere : Option (List ℕ) → S → Result (Unit {0}) AllocError → S → Type 0
+    RecordsHere shown old answer new = MatchBool (records_here (current old))
+        (MatchResult answer (λ _. RecordsAt shown old new)
+        (λ _. (new ≡ old) ⊎ ((moment : ℕ) × tells old moment new)))
+        ((answer ≡ Ok tt) × (new ≡ old))
 
 module _ {S F T E : Type 0} (current : S → Current) (enters : S → Option PlainSpanBuilder → S → Type 0)
     (leaves : S → Current → Bool → S → Type 0)
@@ -70,22 +76,26 @@ module _ {S F T E : Type 0} (current : S → Current) (enters : S → Option Pla
     pub free : is_ready → asked ≡ Some begun
     pub works : Works old asked work answer new
 
-  module _ (with_current : S → Current → S) (reads : PlainContext → PlainContext → Type 0) where
-    -- what headers say was read in the current context, and is the context of the next span; where there was no memory
-    -- to read them no span is asked for
-    abbrev pub Continues : S → Option PlainSpanBuilder → S → Type 0
-    Continues old asked placed =
-        ((caller : PlainContext) × reads (current old).cx caller
-        × Becomes current with_current (record (current old) { cx = caller }) old placed)
-        ⊎ ((asked ≡ None) × (placed ≡ old))
+  -- the same in another context; afterwards the current one is what it was
+  pub record WorksIn (with_current : S → Current → S) (cx : PlainContext) (old : S) (asked : Option PlainSpanBuilder)
+      (work : F) (answer : Result T E) (new : S) : Type 0 where
+    pub placed : S
+    pub places : Becomes current with_current (record (current old) { cx = cx }) old placed
+    pub done : S
+    pub works : Works placed asked work answer done
+    pub back : new ≡ with_current done (current old)
 
-    -- work in a span of this beginning, in the context that headers gave; what was current is so again
-    pub record WorksBelow (begun : PlainSpanBuilder) (old : S) (work : F) (answer : Result T E) (new : S)
-        : Type 0 where
-      pub asked : Option PlainSpanBuilder
-      pub asks : AsksFor begun asked
-      pub placed : S
-      pub continues : Continues old asked placed
-      pub done : S
-      pub works : Works placed asked work answer done
-      pub back : (new ≡ done) ⊎ (new ≡ with_current done (current old))
+  -- work in a span of this beginning, in the context that headers give, read in the current one
+  pub record Continues (with_current : S → Current → S) (reads : PlainContext → PlainContext → Type 0)
+      (begun : PlainSpanBuilder) (old : S) (work : F) (answer : Result T E) (new : S) : Type 0 where
+    pub caller : PlainContext
+    pub is_read : reads (current old).cx caller
+    pub asked : Option PlainSpanBuilder
+    pub asks : AsksFor begun asked
+    pub works : WorksIn with_current caller old asked work answer new
+
+  -- the same, or, where there was no memory to read the headers, work for which no span is asked
+  abbrev pub WorksBelow : (S → Current → S) → (PlainContext → PlainContext → Type 0) → PlainSpanBuilder → S → F
+      → Result T E → S → Type 0
+  WorksBelow with_current reads begun old work answer new =
+      Continues with_current reads begun old work answer new ⊎ Works old None work answer new

@@ -1,8 +1,9 @@
 //! Where a scope stands.
 
-ghost use Rattle.std.specs.Prelude.{◌≡◌, ◌⊎◌, None, Some};
-ghost use Rattle.otel_pipeline.specs.InSpan.{active_in};
-ghost use Rattle.otel_scope.specs.Currents.{IsBeside, SharesAtMost, at_root, bare, inside, records_here};
+ghost use Rattle.std.specs.Prelude.{◌≡◌};
+ghost use Rattle.std.specs.Option.{option_map};
+ghost use Rattle.opentelemetry.specs.PlainContexts.{root_cx};
+ghost use Rattle.otel_scope.specs.Currents.{IsBeside, at_root, bare, records_here, without_state};
 
 use opentelemetry::Context;
 use opentelemetry::trace::{SpanContext, TraceState};
@@ -61,19 +62,25 @@ impl Current {
 fn bare(cx: &Context) -> Context
     ensures { result ≡ bare cx.now }
 {
-    let active = if cx.has_active_span() {
-        Context::new().with_span_context(without_state(cx.span_context()))
-    } else {
-        Ok(Context::new())
-    };
-    let Ok(active) = active else {
-        unreachable!();
-    };
+    let active = with_ids_of(cx);
     if !cx.is_telemetry_suppressed() {
         return active;
     }
     match active.with_telemetry_suppressed() {
         Ok(suppressed) => suppressed,
+        Err(_) => unreachable!(),
+    }
+}
+
+/// The context of which only the ids of the active span are kept.
+fn with_ids_of(cx: &Context) -> Context
+    ensures { result ≡ record root_cx { span_context = option_map without_state cx.now.span_context } }
+{
+    if !cx.has_active_span() {
+        return Context::new();
+    }
+    match Context::new().with_span_context(without_state(cx.span_context())) {
+        Ok(active) => active,
         Err(_) => unreachable!(),
     }
 }

@@ -1,14 +1,10 @@
 //! The law of spans within spans. Each function does nothing; its contract is the law.
 
-ghost use Rattle.std.specs.Prelude.{◌≡◌, ◌⊎◌, ◌≤◌, ℕ, Bool, None, Option, Result, Some, is_err};
-ghost use denote.Ref.{MutBor};
-ghost use Rattle.std.specs.Fn.{Once, FnOnceReturnsAtMut};
+ghost use Rattle.std.specs.Prelude.{◌≡◌, ◌⊎◌, ◌≤◌, ℕ, Bool, None, Option, Some};
 ghost use Rattle.opentelemetry.specs.PlainSpanBuilder.{PlainSpanBuilder};
 ghost use Rattle.otel_scope.specs.Nesting.{GoesForward, LieWithin, Makes, SpansMade};
 ghost use Rattle.otel_scope.specs.Nesting.SpansMade.{made, none};
 ghost use Rattle.otel_scope.specs.Tracings.{Enters, Leaves};
-ghost use Rattle.otel_scope.specs.Working.{Works};
-ghost use Rattle.otel_scope.specs.declared.current.Current.{Current};
 ghost use Rattle.otel_scope.specs.declared.tracing.Tracing.{Tracing};
 
 use otel_pipeline::trace::{Now, SpanProcessor};
@@ -22,18 +18,15 @@ pub fn spans_nest<P: SpanProcessor, S: ShouldSample, G: GivesIds, C: Now, T>()
         → LieWithin (last old.clock) (last new.clock) spans }
 {}
 
-/// Work in a span makes that span, and in it the spans that the work makes; those alone where the span was lost, or is
-/// not current any more when the work has ended.
-pub fn works_make_spans<P: SpanProcessor, S: ShouldSample, G: GivesIds, C: Now, T, F, X, E>()
-    ensures { (last : C → ℕ) (old new : Tracing P S G C T) (asked : Option PlainSpanBuilder) (work : F)
-        (g : Once F (MutBor (Tracing P S G C T) × Unit {0}) (Result X E × (MutBor (Tracing P S G C T) × Unit {0})))
-        (answer : Result X E) (within : SpansMade) → GoesForward C.tells last
+/// Work in a span, which is a start, the work and an end, makes that span, and in it the spans that the work makes; those
+/// alone where the span was lost, or is not current any more when the work has ended.
+pub fn works_make_spans<P: SpanProcessor, S: ShouldSample, G: GivesIds, C: Now, T>()
+    ensures { (last : C → ℕ) (old entered left new : Tracing P S G C T) (asked : Option PlainSpanBuilder)
+        (failed : Bool) (within : SpansMade) → GoesForward C.tells last
         → ((builder : PlainSpanBuilder) → asked ≡ Some builder → builder.start_time ≡ None)
-        → ((entered left : Tracing P S G C T) → FnOnceReturnsAtMut g work entered answer left
-        → Makes P.SpanProcessor S.ShouldSample G.GivesIds C.tells last within entered left)
-        → Works (λ (scope : Tracing P S G C T). scope.current)
-        (Enters P.SpanProcessor S.ShouldSample G.GivesIds C.tells) (Leaves P.SpanProcessor C.tells) g old asked work
-        answer new
+        → Enters P.SpanProcessor S.ShouldSample G.GivesIds C.tells old asked entered
+        → Makes P.SpanProcessor S.ShouldSample G.GivesIds C.tells last within entered left
+        → Leaves P.SpanProcessor C.tells left old.current failed new
         → ((start end : ℕ) × Makes P.SpanProcessor S.ShouldSample G.GivesIds C.tells last
         (made start end within none) old new)
         ⊎ Makes P.SpanProcessor S.ShouldSample G.GivesIds C.tells last within old new }

@@ -8,13 +8,13 @@ ghost use Rattle.otel_pipeline.specs.Exceptions.{exception_event};
 ghost use Rattle.otel_pipeline.specs.SpanEdits.{new_event, new_link};
 ghost use Rattle.otel_pipeline.specs.SpanHistory.{add_event, add_link, set_attribute, set_status, update_name};
 ghost use Rattle.otel_scope.specs.Currents.{records_here, with_baggage};
-ghost use Rattle.otel_scope.specs.Working.{Becomes, EditsHere, EditsNow, RecordsHere, Works, WorksBelow, WorksInSpan};
+ghost use Rattle.otel_scope.specs.Working.{Becomes, EditsHere, EditsNow, RecordsHere, Works, WorksBelow, WorksIn, WorksInSpan};
 
 use crate::{Begins, HoldsSpans, IntoValue};
 use opentelemetry::baggage::Baggage;
 use opentelemetry::propagation::{Extractor, Injector};
 use opentelemetry::trace::{Event, Link, SpanBuilder, SpanContext, Status};
-use opentelemetry::{Key, KeyValue};
+use opentelemetry::{Context, Key, KeyValue};
 use otel_pipeline::trace::{Exception, SpanEdit};
 use std::alloc::AllocError;
 use std::error::Error;
@@ -57,18 +57,13 @@ pub trait Scope: HoldsSpans {
             self.new }
         ensures restores { Self.current self.new ≡ Self.current self.old }
     {
-        let (builder, outside) = match self.extract_here(headers) {
-            Ok(caller) => (
-                begun.into_builder(self.alloc()).ok(),
-                Some(self.replace_context(caller)),
-            ),
-            Err(_) => (None, None),
-        };
-        let answer = work_inside(self, builder, work);
-        if let Some(outside) = outside {
-            let _caller = self.replace_context(outside);
+        match self.extract_here(headers) {
+            Ok(caller) => {
+                let builder = begun.into_builder(self.alloc()).ok();
+                work_in_context(self, caller, builder, work)
+            }
+            Err(_) => work_inside(self, None, work),
         }
-        answer
     }
 
     /// Writes who the current span is, and what baggage goes with it, into headers, for `continue_from`: all that the
@@ -185,8 +180,7 @@ pub trait Scope: HoldsSpans {
             return Ok(());
         }
         let message = error.to_string(self.alloc())?;
-        let now = self.now();
-        self.add_exception(Exception::new(message), now)
+        self.record_exception(Exception::new(message))
     }
 
     /// The same with the error's type and its stack trace, as far as they are known.
@@ -237,5 +231,25 @@ where
     let outer = scope.enter(builder);
     let answer = work(scope);
     scope.leave(outer, answer.is_err());
+    answer
+}
+
+/// The same in another context; afterwards the current one is what it was.
+fn work_in_context<S: HoldsSpans, F, T, E>(
+    scope: &mut S,
+    cx: Context,
+    builder: Option<SpanBuilder>,
+    work: F,
+) -> Result<T, E>
+where
+    F: FnOnce(&mut S) -> Result<T, E>,
+    requires { F.IsAlwaysCallable work }
+    ensures works { WorksIn S.current S.enters S.leaves F.FnOnce S.with_current cx scope.old builder work result
+        scope.new }
+    ensures restores { S.current scope.new ≡ S.current scope.old }
+{
+    let outside = scope.replace_context(cx);
+    let answer = work_inside(scope, builder, work);
+    let _inside = scope.replace_context(outside);
     answer
 }

@@ -1,9 +1,9 @@
 //! A scope over a provider.
 
-ghost use Rattle.std.specs.Prelude.{◌≡◌, ◌⊎◌, [], None, Err, IfNone, IfOk, IfSome, IsOk, Ok, OnErr, OnOk, Some};
-ghost use Rattle.otel_pipeline.specs.InSpan.{AnswersNow, DrawsNow, active_in, beginning, clocked};
-ghost use Rattle.otel_scope.specs.Currents.{at_root, settled};
-ghost use Rattle.otel_scope.specs.Tracings.{Closes, FlushesHere, RunsHere, counted};
+ghost use Rattle.std.specs.Prelude.{◌≡◌, ◌⊎◌};
+ghost use Rattle.otel_export.specs.StoredBatches.{one_more};
+ghost use Rattle.otel_scope.specs.Currents.{IsBeside, at_root, settled};
+ghost use Rattle.otel_scope.specs.Tracings.{Closes, Ends, FlushesHere, Loses, RunsHere, Starts, counted};
 
 use crate::{Current, HoldsSpans};
 use opentelemetry::propagation::{Extractor, Injector, TextMapPropagator};
@@ -89,6 +89,15 @@ impl<P, S, G, C, T> Tracing<P, S, G, C, T> {
             _ => self.lost = self.lost.saturating_add(1),
         }
     }
+
+    /// Counts one more lost span, and says where work without it is.
+    fn lose(&mut self) -> Current
+        ensures beside { IsBeside self.old.current result }
+        ensures counts { self.new ≡ record self.old { lost = one_more self.old.lost } }
+    {
+        self.lost = self.lost.saturating_add(1);
+        self.current.beside()
+    }
 }
 
 impl<P: SpanProcessor, S: Drop, G: Drop, C, T> Tracing<P, S, G, C, T> {
@@ -111,7 +120,13 @@ impl<P: Timed, S: Drop, G: Drop, C: Now, T> Tracing<P, S, G, C, T> {
     }
 }
 
-impl<P: CountsLeftSpans, S: ShouldSample + Drop, G: GivesIds + Drop, C: Now, T: TextMapPropagator> Tracing<P, S, G, C, T> {
+impl<
+    P: CountsLeftSpans,
+    S: ShouldSample + Drop,
+    G: GivesIds + Drop,
+    C: Now,
+    T: TextMapPropagator,
+> Tracing<P, S, G, C, T> {
     /// Closes the provider, and gives back its report and the other parts. A span that is still current, which only code
     /// that calls `enter` itself can leave, ends before.
     pub fn close(mut self) -> Closed<C, T>
@@ -139,30 +154,42 @@ impl<P: CountsLeftSpans, S: ShouldSample + Drop, G: GivesIds + Drop, C: Now, T: 
 }
 
 impl<P: SpanProcessor, S: ShouldSample, G: GivesIds, C: Now, T> Tracing<P, S, G, C, T> {
-    /// Starts a span now, in the current context. None where there is no memory for it; then no processor was told.
-    fn start(&mut self, builder: SpanBuilder) -> Option<(Span, Context)>
-        ensures some { IfSome result (λ started. AnswersNow P.SpanProcessor S.ShouldSample G.GivesIds C.tells
-            (beginning self.old.tracer builder self.old.current.cx self.old.provider self.old.clock) (Ok started.0)
-            (clocked self.new.provider self.new.clock) × (started.1 ≡ active_in self.old.current.cx started.0)) }
-        ensures none { IfNone result (DrawsNow G.GivesIds C.tells
-            (beginning self.old.tracer builder self.old.current.cx self.old.provider self.old.clock)
-            (clocked self.new.provider self.new.clock)) }
-        ensures rest { self.new ≡ record self.old { provider = self.new.provider; clock = self.new.clock } }
+    /// Starts a span now, in the current context, and says where work in it is. Where there is no memory for it no processor
+    /// was told of it.
+    fn begin(&mut self, builder: SpanBuilder) -> Current
+        ensures begins { Starts P.SpanProcessor S.ShouldSample G.GivesIds C.tells self.old builder
+            (record self.new { current = result })
+            ⊎ Loses G.GivesIds C.tells self.old builder (record self.new { current = result }) }
+        ensures stays { self.new.current ≡ self.old.current }
     {
         let now = self.clock.now();
-        let started =
-            self.tracer
-                .start_inside(builder, &self.current.cx, &mut self.provider, now);
+        let started = self
+            .tracer
+            .start_inside(builder, &self.current.cx, &mut self.provider, now);
         match started {
-            Ok(started) => Some(started),
-            Err(_) => None,
+            Ok((span, cx)) => Current {
+                span: Some(span),
+                cx,
+            },
+            Err(_) => self.lose(),
         }
     }
 }
 
+impl<P: SpanProcessor, S: Drop, G: Drop, C: Now, T> Tracing<P, S, G, C, T> {
+    /// Ends a span now, whose work may have failed.
+    fn end(&mut self, mut span: Span, failed: bool)
+        ensures { Ends P.SpanProcessor C.tells self.old (settled failed span) self.old.current self.new }
+    {
+        settle(self.alloc, &mut span, failed);
+        let end = self.clock.now();
+        let ended = end_or_drop(span, &mut self.provider, end);
+        self.count(ended);
+    }
+}
+
 impl<P: SpanProcessor, S: ShouldSample, G: GivesIds, C: Now, T: TextMapPropagator> HoldsSpans
-    for Tracing<P, S, G, C, T>
-{
+    for Tracing<P, S, G, C, T> {
     ghost use Rattle.std.specs.Prelude.{◌≡◌};
     ghost use Rattle.otel_scope.specs.Tracings.{Enters, Leaves};
 
@@ -197,32 +224,18 @@ impl<P: SpanProcessor, S: ShouldSample, G: GivesIds, C: Now, T: TextMapPropagato
     }
 
     fn enter(&mut self, builder: Option<SpanBuilder>) -> Current {
-        let started = match builder {
-            Some(builder) => self.start(builder),
-            None => None,
-        };
-        let inner = match started {
-            Some((span, cx)) => Current {
-                span: Some(span),
-                cx,
-            },
-            None => {
-                self.count(Err(AllocError));
-                self.current.beside()
-            }
+        let inner = match builder {
+            Some(builder) => self.begin(builder),
+            None => self.lose(),
         };
         mem::replace(&mut self.current, inner)
     }
 
     fn leave(&mut self, outer: Current, failed: bool) {
         let Current { span, cx: _ } = mem::replace(&mut self.current, outer);
-        let Some(mut span) = span else {
-            return;
-        };
-        settle(self.alloc, &mut span, failed);
-        let end = self.clock.now();
-        let ended = end_or_drop(span, &mut self.provider, end);
-        self.count(ended);
+        if let Some(span) = span {
+            self.end(span, failed);
+        }
     }
 
     fn edit(&mut self, edit: SpanEdit) -> Result<(), AllocError> {
