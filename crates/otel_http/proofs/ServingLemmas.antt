@@ -17,7 +17,8 @@ use Rattle.otel_pipeline.proofs.SpanLaws.{after-recording}
 use Rattle.http.specs.declared.request.Request.{Request}
 use Rattle.http_server.specs.declared.response.Response.{Response}
 use Rattle.otel_http.specs.declared.traced.TheConstants.{FIRST_FAILURE}
-use Rattle.otel_http.specs.Serving.{IsServerSpan, Serving, ServesTraced, TracedState, ended_span, response_edits}
+use Rattle.otel_http.specs.RequestSpans.{IsServerSpan, response_edits}
+use Rattle.otel_http.specs.Serving.{Serving, ServesTraced, TracedState, ended_span}
 
 -- a start is that of a server's span in a context
 pub record IsServerStart (cx : PlainContext) (start : SpanStart) : Type 0 where

@@ -8,7 +8,8 @@ use Rattle.otel_sampling.specs.declared.trace.id_generator.GivesIds as drawing
 use Rattle.otel_pipeline.specs.SpanHistory.{PlainSpan}
 use Rattle.otel_pipeline.specs.declared.trace.span_processor.SpanProcessor.{Ghosts}
 use Rattle.otel_http.specs.Contexts.{IsContextOf}
-use Rattle.otel_http.specs.Serving.{IsServerSpan, Serving, ServesTraced, TracedState, TracesRequest, ended_span, one_more}
+use Rattle.otel_http.specs.RequestSpans.{IsServerSpan, one_more}
+use Rattle.otel_http.specs.Serving.{Serving, ServesTraced, TracedState, TracesRequest, ended_span}
 
 -- a request with its answer, and the span that was ended for it; none where there was no memory for one
 pub record Answered : Type 0 where

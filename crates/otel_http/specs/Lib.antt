@@ -5,6 +5,7 @@ pub mod Extraction
 pub mod Fields
 pub mod Headers
 pub mod Injection
+pub mod RequestSpans
 pub mod Servers
 pub mod Serving
 pub mod SetHeader

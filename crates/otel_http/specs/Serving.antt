@@ -1,28 +1,22 @@
 -- A request served inside a server's span, and what is said of the service that serves it.
-use Rattle.std.specs.Prelude.{◌≡◌, ◌⊎◌, ℕ, ◌+◌, ◌-◌, ◌^◌, Bool, false, List, [], ◌∷◌, ◌++◌, Some, Result, Ok, Err, map, min, nat_le, is_ok}
-use Rattle.std.specs.Prelude.{IsNone, IsOk, if◌then◌else◌, ◌&&◌}
+use Rattle.std.specs.Prelude.{◌≡◌, ◌⊎◌, ℕ, Bool, List, [], Result, Ok, Err, IsNone}
 use Rattle.std.specs.declared.alloc.AllocError.{AllocError}
 use Rattle.http.specs.declared.request.Request.{Request}
-use Rattle.http.specs.declared.request.Parts.{Parts}
 use Rattle.http.specs.Request.{head_of}
 use Rattle.http_server.specs.declared.response.Response.{Response}
 use Rattle.http_server.specs.Response.{IsResponse}
-use Rattle.opentelemetry.specs.Plain.{PlainContext, PlainKeyValue, PlainScope, PlainSpanContext, error}
-use Rattle.opentelemetry.specs.PlainContexts.{current_span_context, root_cx}
-use Rattle.opentelemetry.specs.PlainSpanBuilder.{PlainSpanBuilder, named_builder}
-use Rattle.opentelemetry.specs.declared.trace.span_kind.SpanKind.{SpanKind}
-use Rattle.opentelemetry.specs.declared.trace.span_kind.SpanKind.TheVariants.{Client, Server}
-use Rattle.otel_export.specs.PlainSpanData.{PlainSpanData}
+use Rattle.opentelemetry.specs.Plain.{PlainContext, PlainScope}
+use Rattle.opentelemetry.specs.PlainContexts.{root_cx}
+use Rattle.opentelemetry.specs.PlainSpanBuilder.{PlainSpanBuilder}
 use Rattle.otel_sampling.specs.declared.trace.sampler.ShouldSample as sampling
 use Rattle.otel_sampling.specs.declared.trace.id_generator.GivesIds as drawing
-use Rattle.otel_pipeline.specs.Ending.{EndIsInfallible}
-use Rattle.otel_pipeline.specs.InSpan.{AnswersNow, Beginning, Clocked, DrawsNow, EndsOrDrops, active_in, beginning, clocked}
+use Rattle.otel_pipeline.specs.InSpan.{AnswersNow, Beginning, Clocked, DrawsNow, active_in, beginning, clocked}
 use Rattle.otel_pipeline.specs.Provider.{ProviderState}
-use Rattle.otel_pipeline.specs.SpanHistory.{Edit, IsEdited, PlainSpan, after, set_attribute, set_status}
+use Rattle.otel_pipeline.specs.SpanHistory.{IsEdited, PlainSpan, after}
 use Rattle.otel_pipeline.specs.declared.trace.span_processor.SpanProcessor.{Ghosts}
 use Rattle.otel_http.specs.declared.traced.TheConstants.{FIRST_FAILURE}
 use Rattle.otel_http.specs.Contexts.{IsContextOf}
-use Rattle.otel_http.specs.Conventions.{HasClientAttributes, HasServerAttributes, method_name, response_attributes}
+pub use Rattle.otel_http.specs.RequestSpans.{EndsCounted, IsClientBuilder, IsServerBuilder, one_more, response_edits}
 
 -- what a service is lent: the span of the request, the provider, and the clock
 pub record Lent (P S G C : Type 0) : Type 0 where
@@ -38,46 +32,6 @@ lent span provider clock = record { span = span; provider = provider; clock = cl
 abbrev pub Serving : (V P S G C : Type 0) → Type 1
 Serving V P S G C = V → Request (List ℕ) → PlainContext → Lent P S G C → Result (Unit {0}) AllocError → Response
     → Lent P S G C → V → Type 0
-
--- what the builder of a request's span has: the method as its name, a kind, and attributes
-pub record IsBuilder (kind : SpanKind) (Has : List PlainKeyValue → Type 0) (head : Parts) (builder : PlainSpanBuilder)
-    : Type 0 where
-  pub attributes : List PlainKeyValue
-  pub has : Has attributes
-  pub is : builder ≡ record (named_builder (method_name head.method)) {
-    span_kind = Some kind;
-    attributes = Some attributes;
-  }
-
--- of a request that is served, of this scheme where its target names none, and of one to another service
-abbrev pub IsServerBuilder : List ℕ → Bool → Parts → PlainSpanBuilder → Type 0
-IsServerBuilder scheme keeps_query head = IsBuilder Server (HasServerAttributes scheme keeps_query head) head
-
-abbrev pub IsClientBuilder : Parts → PlainSpanBuilder → Type 0
-IsClientBuilder head = IsBuilder Client (HasClientAttributes head) head
-
--- the status of a span, by that of the response
-abbrev pub status_edits : ℕ → ℕ → List Edit
-status_edits first_error status = if nat_le first_error status then set_status (error []) ∷ [] else []
-
--- what a span is told of its response; where there is no memory its status alone
-abbrev pub response_edits : ℕ → Bool → ℕ → List Edit
-response_edits first_error whole status =
-    status_edits first_error status
-    ++ (if whole then map set_attribute (response_attributes first_error status) else [])
-
--- one more, up to the greatest u64
-abbrev pub one_more : ℕ → ℕ
-one_more count = min (count + 1) (2 ^ 64 - 1)
-
-module _ {P : Type 0} (calls : Ghosts P) where
-  -- a span ended at a moment; where it was not told all, or there was no memory to end it, that counts
-  pub record EndsCounted {S G : Type 0} (whole : Bool) (span : PlainSpan) (moment : ℕ) (old : ProviderState P S G)
-      (unfinished : ℕ) (new : ProviderState P S G) (unfinished' : ℕ) : Type 0 where
-    pub ended : Result ℕ AllocError
-    pub ends : EndsOrDrops calls old span moment ended new
-    pub free : EndIsInfallible span old → IsOk ended
-    pub counts : unfinished' ≡ (if whole && is_ok ended then unfinished else one_more unfinished)
 
 -- what answers a request: the service's response, and where the service had no memory a 500 without a body
 abbrev pub Responds : Result (Unit {0}) AllocError → Response → Response → Type 0
@@ -201,11 +155,3 @@ module _ {V P S G C : Type 0} (calls : Ghosts P) (sampler : sampling.Ghosts S) (
   TracesRequest old request response new =
       ((cx : PlainContext) × IsContextOf (head_of request).headers cx × ServesIn old request cx response new)
       ⊎ ServesWithout serves old request root_cx response new
-
--- what is recorded of a request that is served in a context: a server's span, whose parent is the context's span and
--- whose trace is that one's; in a root's context, of no parent and a trace of its own
-pub record IsServerSpan (cx : PlainContext) (recorded : PlainSpanData) : Type 0 where
-  pub kind : recorded.span_kind ≡ Server
-  pub parent : recorded.parent_span_id ≡ (current_span_context cx).span_id
-  pub trace : (parent : PlainSpanContext) → cx.span_context ≡ Some parent
-      → recorded.span_context.trace_id ≡ parent.trace_id

@@ -2,7 +2,7 @@
 
 ghost use Rattle.std.specs.Prelude.{◌≡◌, ◌&&◌, IfOk, Ok, OnErr, if◌then◌else◌};
 ghost use Rattle.otel_pipeline.specs.InSpan.{AnswersNow, DrawsNow, active_in, beginning, clocked};
-ghost use Rattle.otel_http.specs.Serving.{EndsCounted, one_more};
+ghost use Rattle.otel_http.specs.RequestSpans.{EndsCounted, one_more};
 
 use opentelemetry::trace::SpanBuilder;
 use opentelemetry::{Context, Moment};

@@ -5,7 +5,7 @@ ghost use Rattle.http.specs.Request.{head_of, with_head};
 ghost use Rattle.otel_pipeline.specs.SpanHistory.{after};
 ghost use Rattle.otel_http.specs.Contexts.{InjectsContext};
 ghost use Rattle.otel_http.specs.Injection.{carrier_answer};
-ghost use Rattle.otel_http.specs.Serving.{IsClientBuilder, response_edits};
+ghost use Rattle.otel_http.specs.RequestSpans.{IsClientBuilder, response_edits};
 
 use crate::SetHeaderError;
 use crate::conventions::{client_attributes, method_name};

@@ -16,7 +16,8 @@ ghost use Rattle.otel_propagation.specs.Traceparent.{CarriesSpan, ExtractsTraceC
 ghost use Rattle.otel_propagation.specs.Traceparent.{IsSpanContext, IsValid, traceparent_field};
 ghost use Rattle.otel_http.specs.Connections.{AnswersCalls};
 ghost use Rattle.otel_http.specs.Headers.{Headers, header_texts};
-ghost use Rattle.otel_http.specs.Serving.{IsServerSpan, ServesTraced, TracedState, TracesRequest, ended_span};
+ghost use Rattle.otel_http.specs.RequestSpans.{IsServerSpan};
+ghost use Rattle.otel_http.specs.Serving.{ServesTraced, TracedState, TracesRequest, ended_span};
 
 use crate::TracedService;
 use otel_pipeline::trace::{Now, SpanProcessor};

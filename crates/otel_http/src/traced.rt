@@ -4,8 +4,8 @@ ghost use Rattle.std.specs.Prelude.{◌≡◌, false, true, IfOk, IsNone, IsOk, 
 ghost use Rattle.http.specs.Request.{head_of};
 ghost use Rattle.http_server.specs.Response.{IsBlank};
 ghost use Rattle.otel_pipeline.specs.SpanHistory.{after};
-ghost use Rattle.otel_http.specs.Serving.{IsServerBuilder, ServesIn, ServesInside, ServesOnce, ServesWithout, TracesRequest};
-ghost use Rattle.otel_http.specs.Serving.{lent, response_edits};
+ghost use Rattle.otel_http.specs.RequestSpans.{IsServerBuilder, response_edits};
+ghost use Rattle.otel_http.specs.Serving.{ServesIn, ServesInside, ServesOnce, ServesWithout, TracesRequest, lent};
 
 use crate::TracedService;
 use crate::begun::{Begun, begin_span, end_counted};
