@@ -1,9 +1,9 @@
 //! Headers that a propagator writes into.
 
-ghost use Rattle.std.specs.Prelude.{◌≡◌, ◌⊎◌, ◌↔◌, IfErr, IfOk, IsFalse, IsSome, IsTrue, None, OnErr, OnOk, string_bytes};
+ghost use Rattle.std.specs.Prelude.{◌≡◌, ◌⊎◌, ◌↔◌, IfErr, IfOk, IsSomeAnd, IsTrue, None, OnErr, OnOk, string_bytes};
 ghost use Rattle.http_header.specs.FieldName.{IsFieldName};
 ghost use Rattle.http_header.specs.FieldValue.{plain_value};
-ghost use Rattle.http_header.specs.HeaderMap.{RefusesInsert, insert};
+ghost use Rattle.http_header.specs.HeaderMap.{insert};
 ghost use Rattle.http_header.specs.Token.{lowercase};
 ghost use Rattle.opentelemetry.specs.Carrier.{SameTexts, SetsText};
 ghost use Rattle.otel_http.specs.Fields.{is_field_content};
@@ -44,6 +44,7 @@ pub struct HeaderInjector {
 
 impl HeaderInjector {
     ghost use Rattle.otel_http.specs.Injection.{headers_of, refusal_of};
+    ghost use Rattle.otel_http.specs.SetHeader.{Refuses};
 
     /// An injector into these headers.
     pub fn new(alloc: Global, headers: HeaderMap) -> HeaderInjector
@@ -81,13 +82,10 @@ impl HeaderInjector {
         ensures ok { OnOk result (headers_of self.new
             ≡ insert (headers_of self.old) (lowercase key.now) (plain_value (string_bytes value))) }
         ensures content { OnOk result (IsTrue (is_field_content (string_bytes value))) }
+        ensures named { OnOk result (IsFieldName key.now) }
         ensures sets { OnOk result (SetsText (header_texts (headers_of self.old)) (header_texts (headers_of self.new))
             key.now (string_bytes value)) }
-        ensures value { (result ≡ Err SetHeaderError.Value) ↔ IsFalse (is_field_content (string_bytes value)) }
-        ensures name { (result ≡ Err SetHeaderError.Name)
-            ↔ (IsTrue (is_field_content (string_bytes value)) × ¬ (IsFieldName key.now)) }
-        ensures full { result ≡ Err SetHeaderError.Full
-            → RefusesInsert (headers_of self.old) (lowercase key.now) }
+        ensures refuses { IfErr result (Refuses (headers_of self.old) key.now (string_bytes value)) }
         ensures err { OnErr result (self.new ≡ self.old) }
         ensures refusal { refusal_of self.new ≡ refusal_of self.old }
     {
@@ -104,6 +102,7 @@ impl HeaderInjector {
 impl Injector for HeaderInjector {
     ghost use Rattle.otel_http.specs.Headers.{header_texts};
     ghost use Rattle.otel_http.specs.Injection.{headers_of, refusal_of};
+    ghost use Rattle.otel_http.specs.SetHeader.{Refuses};
 
     ghost texts = { λ injector. header_texts (headers_of injector) };
 
@@ -113,9 +112,13 @@ impl Injector for HeaderInjector {
             key.now (string_bytes value)) }
         ensures err { OnErr result
             (SameTexts (header_texts (headers_of self.old)) (header_texts (headers_of self.new))) }
+        ensures inserted { OnOk result (headers_of self.new
+            ≡ insert (headers_of self.old) (lowercase key.now) (plain_value (string_bytes value))) }
         ensures content { OnOk result (IsTrue (is_field_content (string_bytes value))) }
         ensures same { OnErr result (headers_of self.new ≡ headers_of self.old) }
-        ensures refusal { OnErr result (IsSome (refusal_of self.new)) }
+        ensures refusal { OnErr result (IsSomeAnd (refusal_of self.new)
+            (Refuses (headers_of self.old) key.now (string_bytes value))) }
+        ensures kept { OnOk result (refusal_of self.new ≡ refusal_of self.old) }
     {
         match self.try_set(key, value) {
             Ok(()) => Ok(()),
@@ -130,6 +133,7 @@ impl Injector for HeaderInjector {
 /// The name of a header. A standard one takes no memory.
 fn name_of(alloc: Global, key: &str) -> Result<HeaderName, SetHeaderError>
     ensures ok { IfOk result (λ name. name ≡ lowercase key.now) }
+    ensures named { OnOk result (IsFieldName key.now) }
     ensures name { (result ≡ Err SetHeaderError.Name) ↔ ¬ (IsFieldName key.now) }
     ensures errors { IfErr result (λ error. (error ≡ SetHeaderError.Name) ⊎ (error ≡ SetHeaderError.Memory)) }
 {
