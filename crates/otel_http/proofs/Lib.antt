@@ -1,4 +1,6 @@
 pub mod ConnectionLemmas
+pub mod ContextFieldsLemmas
+pub mod ContextTextsLemmas
 pub mod FieldsLemmas
 pub mod HeadersLemmas
 pub mod LawLemmas

@@ -1,4 +1,6 @@
 pub mod Connections
+pub mod ContextFields
+pub mod ContextTexts
 pub mod Contexts
 pub mod Conventions
 pub mod Extraction

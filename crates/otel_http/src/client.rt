@@ -1,8 +1,9 @@
 //! A request to another service: its span, and the headers by which the other service takes part in the trace.
 
-ghost use Rattle.std.specs.Prelude.{◌≡◌, IfOk, is_ok};
+ghost use Rattle.std.specs.Prelude.{◌≡◌, IfOk, OnErr, OnOk, is_ok};
 ghost use Rattle.http.specs.Request.{head_of, with_head};
 ghost use Rattle.otel_pipeline.specs.SpanHistory.{after};
+ghost use Rattle.otel_http.specs.ContextFields.{SetsFields, SetsUpTo, context_fields, other_fields};
 ghost use Rattle.otel_http.specs.Contexts.{InjectsContext};
 ghost use Rattle.otel_http.specs.Injection.{carrier_answer};
 ghost use Rattle.otel_http.specs.RequestSpans.{IsClientBuilder, response_edits};
@@ -21,7 +22,7 @@ use std::alloc::{AllocError, Global};
 const FIRST_ERROR: u16 = 400;
 
 /// Writes a context into the headers of a request, so that the service that gets it takes part in the trace. On an error
-/// the texts that were set before it stay.
+/// a beginning of its headers is set; all else of the request stays as it is, whether it succeeds or not.
 pub fn inject_request<B>(
     alloc: Global,
     request: &mut Request<B>,
@@ -29,6 +30,11 @@ pub fn inject_request<B>(
 ) -> Result<(), SetHeaderError>
     ensures injects { InjectsContext cx.now (head_of request.old).headers (carrier_answer result)
         (head_of request.new).headers }
+    ensures ok { OnOk result
+        (SetsFields (head_of request.old).headers (context_fields cx.now) (head_of request.new).headers) }
+    ensures err { OnErr result
+        (SetsUpTo (head_of request.old).headers (context_fields cx.now) (head_of request.new).headers) }
+    ensures others { other_fields (head_of request.new).headers ≡ other_fields (head_of request.old).headers }
     ensures rest { request.new ≡ with_head request.old
         (record (head_of request.old) { headers = (head_of request.new).headers }) }
 {

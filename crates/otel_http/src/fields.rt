@@ -10,7 +10,7 @@ use http_header::{HeaderMap, HeaderName};
 use std::alloc::{AllocError, Global};
 
 /// The header of which one field at most counts.
-const SINGLE_FIELD: &str = "traceparent";
+pub(crate) const TRACEPARENT: &str = "traceparent";
 
 fn is_visible_or_blank(byte: u8) -> bool
     ensures { result ≡ is_visible_or_blank byte }
@@ -55,7 +55,7 @@ pub(crate) fn repeated_text(
     ensures { IfOk result (λ text. option_map (λ t. string_bytes t) text
         ≡ repeated_text name.now (get_all headers.now name.now)) }
 {
-    if name.eq_str(SINGLE_FIELD) {
+    if name.eq_str(TRACEPARENT) {
         return Ok(None);
     }
     joined_text(alloc, headers, name)

@@ -4,6 +4,7 @@
 
 mod begun;
 mod client;
+mod context_texts;
 mod conventions;
 mod fields;
 mod header_extractor;

@@ -1,12 +1,14 @@
 //! Contexts into headers, and out of them.
 
-ghost use Rattle.std.specs.Prelude.{IfOk};
+ghost use Rattle.std.specs.Prelude.{◌≡◌, IfOk, OnErr, OnOk};
 ghost use Rattle.opentelemetry.specs.PlainContexts.{root_cx};
 ghost use Rattle.otel_propagation.specs.Traceparent.{ExtractsTraceContext};
+ghost use Rattle.otel_http.specs.ContextFields.{SetsFields, SetsUpTo, context_fields, other_fields};
 ghost use Rattle.otel_http.specs.Contexts.{ExtractsContext, InjectsContext, IsContextOf};
 ghost use Rattle.otel_http.specs.Headers.{header_texts};
 ghost use Rattle.otel_http.specs.Injection.{carrier_answer};
 
+use crate::context_texts::ContextTexts;
 use crate::{HeaderExtractor, HeaderInjector, SetHeaderError};
 use http_header::HeaderMap;
 use opentelemetry::Context;
@@ -49,16 +51,26 @@ pub fn extract_headers<P: TextMapPropagator>(
     propagator.extract_with_context(alloc, cx, &extractor)
 }
 
-/// Writes a context into headers as W3C has it: the span context, and then the baggage by the strict grammar.
+/// Writes a context into headers as W3C has it: the span context, and then the baggage by the strict grammar. On an error
+/// a beginning of its headers is set; all others stay as they are, whether it succeeds or not.
 pub fn inject_context(
     alloc: Global,
     cx: &Context,
     headers: &mut HeaderMap,
 ) -> Result<(), SetHeaderError>
-    ensures { InjectsContext cx.now headers.old (carrier_answer result) headers.new }
+    ensures injects { InjectsContext cx.now headers.old (carrier_answer result) headers.new }
+    ensures ok { OnOk result (SetsFields headers.old (context_fields cx.now) headers.new) }
+    ensures err { OnErr result (SetsUpTo headers.old (context_fields cx.now) headers.new) }
+    ensures others { other_fields headers.new ≡ other_fields headers.old }
 {
-    inject_headers(&TraceContextPropagator::new(), alloc, cx, headers)?;
-    inject_headers(&StrictBaggagePropagator::new(), alloc, cx, headers)
+    let Ok(texts) = ContextTexts::of(alloc, cx) else {
+        return Err(SetHeaderError::Memory);
+    };
+    let taken = mem::replace(headers, HeaderMap::new(alloc));
+    let mut injector = HeaderInjector::new(alloc, taken);
+    let set = texts.set_in(&mut injector);
+    *headers = injector.into_headers();
+    set
 }
 
 /// The context that headers carry as W3C has it: a span context and a baggage by the strict grammar, where they are
