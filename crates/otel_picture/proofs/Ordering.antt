@@ -6,7 +6,8 @@ use Rattle.std.specs.List.{AllByRecursion}
 use Rattle.std.proofs.lemmas.Bool.{cases_eq, cases_lt, eq-eqb, false≢true, le-ltb, lt-ltb, ne_eqb}
 use Rattle.std.proofs.lemmas.List.Sums.{sum_by-cons}
 use Rattle.otel_picture.specs.Orders.{AreInOrder, Precedes, comes_before, start_at}
-use Rattle.otel_picture.specs.Rows.{IsRoot, IsUnder, StandUnder, nearest_above, parent_of, rows_of}
+use Rattle.otel_picture.specs.Parents.{parent_of}
+use Rattle.otel_picture.specs.Rows.{IsRoot, IsUnder, StandUnder, nearest_above, rows_of}
 use Rattle.otel_picture.specs.declared.rows.Mark.{Mark}
 use Rattle.otel_picture.specs.declared.rows.Row.{Row}
 
@@ -148,7 +149,7 @@ counted_at parent (r ∷ rows) (suc at) d l e = omega (
 
 -- no child's row is before its parent's, nor is it that
 none_here : (marks : List Mark) (parents : List (Option ℕ)) (before rows : List Row) (at : ℕ) (r row d : Row)
-    (parent : ℕ) → IsRoot parents r ⊎ IsUnder parents before r
+    (parent : ℕ) → IsRoot marks parents r ⊎ IsUnder parents before r
     → rows_of parent before + rows_of parent (r ∷ rows) ≤ 1
     → at < length (r ∷ rows) → (get_or (r ∷ rows) at d).span ≡ parent → parent_of parents row.span ≡ Some parent
     → 0 < row.level → Precedes marks parents r row
@@ -169,7 +170,7 @@ none_here marks parents before rows at r row d parent (inr under) once l e of de
     ))
 
 pub none_above : (marks : List Mark) (parents : List (Option ℕ)) (before rows : List Row) (at : ℕ) (row d : Row)
-    (parent : ℕ) → StandUnder parents before rows → rows_of parent before + rows_of parent rows ≤ 1
+    (parent : ℕ) → StandUnder marks parents before rows → rows_of parent before + rows_of parent rows ≤ 1
     → at < length rows → (get_or rows at d).span ≡ parent → parent_of parents row.span ≡ Some parent → 0 < row.level
     → AllByRecursion (λ r. Precedes marks parents r row) (take (suc at) rows)
 none_above marks parents before [] at row d parent h once l e of deep = absurd (omega arith)

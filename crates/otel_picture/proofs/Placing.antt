@@ -1,5 +1,5 @@
 -- Rows as they are put in: what holds of those so far holds of one more.
-use Rattle.std.proofs.Common.{◌≡◌, ◌<◌, ◌≤◌, ◌⊎◌, inl, inr, ℕ, zero, suc, Bool, true, false, Option, Some, List}
+use Rattle.std.proofs.Common.{◌≡◌, ◌<◌, ◌≤◌, ◌⊎◌, inl, inr, ℕ, suc, Bool, true, false, Option, Some, None, List}
 use Rattle.std.proofs.Common.{[], ◌∷◌, ◌+◌, ◌==◌, ◌∙◌, if◌then◌else◌, get_or, set, length, sym, subst, ap, refl, arith}
 use Rattle.std.proofs.Common.{All, insert, count_by, take, drop, add-one, ◌&&◌}
 use Rattle.std.specs.List.{AllByRecursion}
@@ -9,9 +9,10 @@ use Rattle.std.proofs.lemmas.List.Edits.{length-insert}
 use Rattle.std.proofs.lemmas.List.Elements.{All-append, All-cons, All-drop, All-from_recursion, All-take, All-weaker}
 use Rattle.std.proofs.lemmas.List.Elements.{recursion_from_All}
 use Rattle.std.proofs.lemmas.List.Sums.{sum_by-cons, sum_by-insert, sum_by-set}
-use Rattle.otel_picture.specs.Orders.{AreInOrder, Precedes, comes_before, is_later_root}
+use Rattle.otel_picture.specs.Orders.{AreInOrder, IsHead, Precedes, comes_before, is_later_root}
+use Rattle.otel_picture.specs.Parents.{parent_of}
 use Rattle.otel_picture.specs.Placed.{ArePlaced, IsLastReady, IsPutIn, WaitInFront}
-use Rattle.otel_picture.specs.Rows.{HasAncestors, IsLeft, IsTurn, StandUnder, is_ready, parent_of, rows_of}
+use Rattle.otel_picture.specs.Rows.{IsLeft, IsTurn, StandUnder, is_ready, rows_of}
 use Rattle.otel_picture.specs.declared.rows.Mark.{Mark}
 use Rattle.otel_picture.specs.declared.rows.Row.{Row}
 use Rattle.otel_picture.proofs.Ordering.{before_total, counted_at, none_above, one_here, put_in_order}
@@ -105,7 +106,7 @@ placed_more marks parents placed old new span before left put =
       once = λ other. one_more span other put.row placed old put.at put.shows left.there missing (before.once other)
           (cases_eq other span);
       no_more = omega (arith, length-insert old put.at put.row put.within, before.no_more, rw left.left at counted);
-      under = subst (λ rows. StandUnder parents [] rows) put.is put.under;
+      under = subst (λ rows. StandUnder marks parents [] rows) put.is put.under;
       shallow = all_rows old put.at put.row put.within put.shallow before.shallow;
       there = all_there parents old put.at put.row (omega (arith, left.there, before.alike, put.shows)) before.there;
       in_order = subst (λ rows. AreInOrder marks parents rows) put.is put.in_order;
@@ -164,7 +165,7 @@ put_after marks parents placed old new at span parent before left last there rea
       is = is;
       shows = refl;
       shallow = omega (arith, low);
-      under = rw (is, add-one) (insert_under parents [] old at row there
+      under = rw (is, add-one) (insert_under marks parents [] old at row there
           (known ∙ ap (λ (r : Row). Some r.span) (get_or_default old at parent row there))
           (add-one parent.level ∙ ap (λ (r : Row). suc r.level) (read ∙ get_or_default old at parent row there))
           before.under);
@@ -187,15 +188,15 @@ both_true false b h = absurd (false≢true h)
 
 -- a row without its parent's is a root's
 root_of : (marks : List Mark) (parents : List (Option ℕ)) (placed : List Bool) (rows : List Row) (span : ℕ)
-    → ArePlaced marks parents placed rows
+    (parent : Option ℕ) → ArePlaced marks parents placed rows → parent_of parents span ≡ parent
     → ((parent : ℕ) → parent_of parents span ≡ Some parent → rows_of parent rows ≡ 0)
-    → IsTurn parents placed span → (count : ℕ) → HasAncestors parents count span → count ≡ 0
-root_of marks parents placed rows span before none (inr endless) count h = absurd (endless count h)
-root_of marks parents placed rows span before none (inl ready) zero h = refl
-root_of marks parents placed rows span before none (inl ready) (suc count) h =
-    let over : get_or placed h.0 false ≡ true = both_true _ _ (rw h.1 at ready) in
-    let one : rows_of h.0 rows ≡ 1 = before.once h.0 ∙ ap (λ (b : Bool). if b then 1 else 0) over in
-    absurd (omega (arith, one, none h.0 h.1))
+    → IsTurn marks parents placed span → (parent_of parents span ≡ None) ⊎ IsHead marks parents span
+root_of marks parents placed rows span None before e none turn = inl e
+root_of marks parents placed rows span (Some parent) before e none (inr head) = inr head
+root_of marks parents placed rows span (Some parent) before e none (inl ready) =
+    let over : get_or placed parent false ≡ true = both_true _ _ (rw e at ready) in
+    let one : rows_of parent rows ≡ 1 = before.once parent ∙ ap (λ (b : Bool). if b then 1 else 0) over in
+    absurd (omega (arith, one, none parent e))
 
 -- the span of no row
 none_shown : (span : ℕ) (rows : List Row) → rows_of span rows ≡ 0 → AllByRecursion (λ r. span ≡ r.span → ⊥) rows
@@ -218,7 +219,7 @@ two_true false b h = absurd (false≢true h)
 pub put_root : (marks : List Mark) (parents : List (Option ℕ)) (placed : List Bool) (old new : List Row)
     (at span : ℕ) → ArePlaced marks parents placed old → IsLeft placed span → at ≤ length old
     → ((parent : ℕ) → parent_of parents span ≡ Some parent → rows_of parent old ≡ 0)
-    → IsTurn parents placed span
+    → IsTurn marks parents placed span
     → All (λ row. is_later_root marks span row ≡ false) (take at old)
     → ((row : Row) → at < length old → is_later_root marks span (get_or old at row) ≡ true)
     → new ≡ insert old at (record { span = span; level = 0 }) → IsPutIn marks parents placed old new span
@@ -236,8 +237,8 @@ put_root marks parents placed old new at span before left within none turn earli
       is = is;
       shows = refl;
       shallow = omega arith;
-      under = rw is (insert_root parents [] old at row
-          (record { level = refl; ancestors = root_of marks parents placed old span before none turn })
+      under = rw is (insert_root marks parents [] old at row
+          (record { level = refl; top = root_of marks parents placed old span _ before refl none turn })
           (λ l. (first l).0) before.under);
       in_order = rw is (put_in_order marks parents old at row
           (roots_before marks parents (take at old) row refl

@@ -7,6 +7,7 @@ pub mod Families
 pub mod Groups
 pub mod Layouts
 pub mod Orders
+pub mod Parents
 pub mod Placed
 pub mod PlainSheets
 pub mod Rows

@@ -1,7 +1,8 @@
 -- The order of the spans of a trace: by start, and then by order of export.
-use Rattle.std.specs.Prelude.{◌≡◌, ◌<◌, ℕ, Bool, true, List, [], ◌∷◌, ◌&&◌, ◌||◌, ◌⊎◌, ◌==◌, Option, get_or, nat_lt}
+use Rattle.std.specs.Prelude.{◌≡◌, ◌<◌, ℕ, suc, Bool, true, false, List, [], ◌∷◌, ◌&&◌, ◌||◌, ◌⊎◌, ◌==◌, Option, Some}
+use Rattle.std.specs.Prelude.{get_or, nat_lt}
 use Rattle.std.specs.List.{AllByRecursion}
-use Rattle.otel_picture.specs.Rows.{parent_of}
+use Rattle.otel_picture.specs.Parents.{ancestor, parent_of}
 use Rattle.otel_picture.specs.declared.rows.Mark.{Mark}
 use Rattle.otel_picture.specs.declared.rows.Row.{Row}
 
@@ -20,6 +21,12 @@ abbrev pub comes_before : List Mark → ℕ → ℕ → Bool
 comes_before marks span other =
     nat_lt (start_at marks span) (start_at marks other)
     || ((start_at marks span == start_at marks other) && nat_lt span other)
+
+-- the first span of a circle of parents: steps up from it come back to it, and no span there comes before it
+pub record IsHead (marks : List Mark) (parents : List (Option ℕ)) (span : ℕ) : Type 0 where
+  pub steps : ℕ
+  pub circle : ancestor parents (suc steps) span ≡ Some span
+  pub first : (count other : ℕ) → ancestor parents count span ≡ Some other → comes_before marks other span ≡ false
 
 -- whether a row is a root's that comes after a span
 abbrev pub is_later_root : List Mark → ℕ → Row → Bool

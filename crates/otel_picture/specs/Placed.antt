@@ -3,7 +3,8 @@ use Rattle.std.specs.Prelude.{◌≡◌, ◌<◌, ◌≤◌, ℕ, Bool, true, fa
 use Rattle.std.specs.Prelude.{if◌then◌else◌, length}
 use Rattle.otel_picture.specs.Families.{parents_in}
 use Rattle.otel_picture.specs.Orders.{AreInOrder, comes_before}
-use Rattle.otel_picture.specs.Rows.{IsLeft, StandUnder, is_ready, parent_of, rows_of}
+use Rattle.otel_picture.specs.Parents.{parent_of}
+use Rattle.otel_picture.specs.Rows.{IsLeft, StandUnder, is_ready, rows_of}
 use Rattle.otel_picture.specs.declared.rows.Mark.{Mark}
 use Rattle.otel_picture.specs.declared.rows.Row.{Row}
 
@@ -23,7 +24,7 @@ pub record ArePlaced (marks : List Mark) (parents : List (Option ℕ)) (placed :
   pub alike : length placed ≡ length parents
   pub once : (span : ℕ) → rows_of span rows ≡ (if get_or placed span false then 1 else 0)
   pub no_more : length rows ≡ count_by (λ has_row. has_row) placed
-  pub under : StandUnder parents [] rows
+  pub under : StandUnder marks parents [] rows
   pub shallow : All (λ row. row.level < length rows) rows
   pub there : All (λ row. row.span < length parents) rows
   pub in_order : AreInOrder marks parents rows
@@ -38,7 +39,7 @@ pub record IsPutIn (marks : List Mark) (parents : List (Option ℕ)) (placed : L
   pub is : new ≡ insert old at row
   pub shows : row.span ≡ span
   pub shallow : row.level ≤ length old
-  pub under : StandUnder parents [] new
+  pub under : StandUnder marks parents [] new
   pub in_order : AreInOrder marks parents new
   pub waits : 0 < row.level → (other : ℕ) → IsLeft placed other → (other ≡ span → ⊥)
       → parent_of parents other ≡ parent_of parents span → comes_before marks other span ≡ true
@@ -49,5 +50,5 @@ pub record AreRows (marks : List Mark) (rows : List Row) : Type 0 where
   pub each_once : (span : ℕ) → span < length marks → rows_of span rows ≡ 1
   pub no_more : length rows ≡ length marks
   pub there : All (λ row. row.span < length marks) rows
-  pub under : StandUnder (parents_in marks) [] rows
+  pub under : StandUnder marks (parents_in marks) [] rows
   pub in_order : AreInOrder marks (parents_in marks) rows

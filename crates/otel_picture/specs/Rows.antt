@@ -1,27 +1,15 @@
--- The rows of a trace's picture: which span stands where, and how far under its ancestors. A span is a number, its
--- place in order of export; of each the number of its parent is known, or that no parent is in the picture.
-use Rattle.std.specs.Prelude.{◌≡◌, ◌<◌, ℕ, zero, suc, Bool, true, false, Option, Some, None, List, [], ◌∷◌}
+-- The rows of a trace's picture: which span stands where, and how far under its ancestors.
+use Rattle.std.specs.Prelude.{◌≡◌, ◌<◌, ℕ, suc, Bool, true, false, Option, Some, None, List, [], ◌∷◌}
 use Rattle.std.specs.Prelude.{◌&&◌, ◌==◌, ◌⊎◌, get_or, length, not, count_by, if◌then◌else◌, nat_lt}
+use Rattle.otel_picture.specs.Orders.{IsHead}
+use Rattle.otel_picture.specs.Parents.{parent_of}
+use Rattle.otel_picture.specs.declared.rows.Mark.{Mark}
 use Rattle.otel_picture.specs.declared.rows.Row.{Row}
 
--- the parent of a span
-abbrev pub parent_of : List (Option ℕ) → ℕ → Option ℕ
-parent_of parents span = get_or parents span None
-
--- each parent is a span of the picture
-abbrev pub AreKnown : List (Option ℕ) → Type 0
-AreKnown parents = (span parent : ℕ) → parent_of parents span ≡ Some parent → parent < length parents
-
--- a span has so many ancestors in the picture. In a circle, and under one, no span has
-abbrev pub HasAncestors : List (Option ℕ) → ℕ → ℕ → Type 0
-HasAncestors parents zero span = parent_of parents span ≡ None
-HasAncestors parents (suc count) span =
-    (parent : ℕ) × (parent_of parents span ≡ Some parent) × HasAncestors parents count parent
-
--- a row at the left: of a span without ancestors, or of one of a circle
-pub record IsRoot (parents : List (Option ℕ)) (row : Row) : Type 0 where
+-- a row at the left: of a span without a parent, or of the first span of a circle
+pub record IsRoot (marks : List Mark) (parents : List (Option ℕ)) (row : Row) : Type 0 where
   pub level : row.level ≡ 0
-  pub ancestors : (count : ℕ) → HasAncestors parents count row.span → count ≡ 0
+  pub top : (parent_of parents row.span ≡ None) ⊎ IsHead marks parents row.span
 
 -- the last one of rows, which come last first, that stands less than so many levels under a root
 abbrev pub nearest_above : ℕ → List Row → Option Row
@@ -36,10 +24,10 @@ pub record IsUnder (parents : List (Option ℕ)) (before : List Row) (row : Row)
   pub is_nearest : nearest_above row.level before ≡ Some parent
 
 -- each row is a root, or after its parent's row and one level under it: the rows, last first, are read on
-abbrev pub StandUnder : List (Option ℕ) → List Row → List Row → Type 0
-StandUnder parents before [] = Unit {0}
-StandUnder parents before (row ∷ rows) =
-    (IsRoot parents row ⊎ IsUnder parents before row) × StandUnder parents (row ∷ before) rows
+abbrev pub StandUnder : List Mark → List (Option ℕ) → List Row → List Row → Type 0
+StandUnder marks parents before [] = Unit {0}
+StandUnder marks parents before (row ∷ rows) =
+    (IsRoot marks parents row ⊎ IsUnder parents before row) × StandUnder marks parents (row ∷ before) rows
 
 -- the rows of a span
 abbrev pub rows_of : ℕ → List Row → ℕ
@@ -63,7 +51,6 @@ pub record IsLeft (placed : List Bool) (span : ℕ) : Type 0 where
 abbrev pub IsStuck : List (Option ℕ) → List Bool → Type 0
 IsStuck parents placed = (span : ℕ) → span < length placed → is_ready parents placed span ≡ false
 
--- a span's row may be put in: it is ready, or in a circle or under one
-abbrev pub IsTurn : List (Option ℕ) → List Bool → ℕ → Type 0
-IsTurn parents placed span =
-    (is_ready parents placed span ≡ true) ⊎ ((count : ℕ) → ¬ HasAncestors parents count span)
+-- a span's row may be put in: it is ready, or the first of a circle
+abbrev pub IsTurn : List Mark → List (Option ℕ) → List Bool → ℕ → Type 0
+IsTurn marks parents placed span = (is_ready parents placed span ≡ true) ⊎ IsHead marks parents span

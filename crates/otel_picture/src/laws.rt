@@ -1,10 +1,11 @@
 //! Laws of pictures. Each function does nothing; its contract is the law, for all values.
 
-ghost use Rattle.std.specs.Prelude.{ℕ, ◌≡◌, ◌<◌, ◌≤◌, ◌+◌, All, List, Option, [], length, max};
+ghost use Rattle.std.specs.Prelude.{ℕ, ◌≡◌, ◌<◌, ◌≤◌, ◌+◌, All, List, Option, Some, [], length, max};
 ghost use Rattle.otel_picture.specs.Bars.{column, first_of, last_of};
 ghost use Rattle.otel_picture.specs.Durations.{shown_duration, step_of};
-ghost use Rattle.otel_picture.specs.Orders.{mark_at};
-ghost use Rattle.otel_picture.specs.Rows.{HasAncestors, StandUnder};
+ghost use Rattle.otel_picture.specs.Orders.{IsHead, mark_at};
+ghost use Rattle.otel_picture.specs.Parents.{HasAncestors, ancestor};
+ghost use Rattle.otel_picture.specs.Rows.{StandUnder};
 ghost use Rattle.otel_picture.specs.Texts.{IsPiece, escaped_char};
 ghost use Rattle.otel_picture.specs.declared.rows.Mark.{Mark};
 ghost use Rattle.otel_picture.specs.declared.rows.Row.{Row};
@@ -23,8 +24,14 @@ pub fn columns_follow_time()
 /// Where each row is a root or after its parent's and one level under it, a row's level is the number of its span's
 /// ancestors in the picture; a span of a circle, or under one, has no such number.
 pub fn levels_count_ancestors()
-    ensures { (parents : List (Option ℕ)) (rows : List Row) → StandUnder parents [] rows
+    ensures { (marks : List Mark) (parents : List (Option ℕ)) (rows : List Row) → StandUnder marks parents [] rows
         → All (λ row. (count : ℕ) → HasAncestors parents count row.span → row.level ≡ count) rows }
+{}
+
+/// A circle of parents has one first span, so that no other span of it is a root: each other stands under its parent.
+pub fn circles_have_one_head()
+    ensures { (marks : List Mark) (parents : List (Option ℕ)) (steps head other : ℕ) → IsHead marks parents head
+        → ancestor parents steps head ≡ Some other → IsHead marks parents other → other ≡ head }
 {}
 
 /// What the SVG form writes for a character is an entity, or bytes that begin nothing in XML.

@@ -3,16 +3,16 @@
 //! Rows are put in one by one. Of the spans whose parent has a row, or has none in the picture, the last one by start
 //! and order of export is next: right after its parent's row, so that the siblings before it come between. A root
 //! goes in front of the first root that is later. Where no span is left but those of circles and under them, the first
-//! one of a circle is next, as a root.
+//! one of a circle is next, as a root, and so the circle's only root: the others come under their parents.
 
-ghost use Rattle.std.specs.Prelude.{◌≡◌, ◌<◌, ◌≤◌, ℕ, Bool, true, false, Some, [], length, All, IfNone, IfOk, IfSome};
-ghost use Rattle.std.specs.Prelude.{OnOk, get_or, take, vec_len};
-ghost use Rattle.otel_picture.specs.Orders.{comes_before, is_later_root, start_at};
+ghost use Rattle.std.specs.Prelude.{◌≡◌, ◌<◌, ◌≤◌, ℕ, suc, Bool, true, false, Some, [], length, All, IfNone, IfOk};
+ghost use Rattle.std.specs.Prelude.{IfSome, OnOk, get_or, take, vec_len};
+ghost use Rattle.otel_picture.specs.Orders.{IsHead, comes_before, is_later_root, start_at};
+ghost use Rattle.otel_picture.specs.Parents.{AreKnown, ancestor, parent_of};
 ghost use Rattle.otel_picture.specs.Placed.{ArePlaced, AreRows, IsLastReady, IsPutIn};
 ghost use Rattle.otel_picture.specs.Families.{parents_in};
-ghost use Rattle.otel_picture.specs.Rows.{AreKnown, IsLeft, IsStuck, IsTurn};
+ghost use Rattle.otel_picture.specs.Rows.{IsLeft, IsStuck, IsTurn, is_ready, rows_of};
 ghost use Rattle.otel_picture.specs.declared.rows.Row.{Row};
-ghost use Rattle.otel_picture.specs.Rows.{is_ready, parent_of, rows_of};
 
 use opentelemetry::SpanId;
 use std::alloc::{AllocError, Global};
@@ -117,12 +117,13 @@ impl Family {
         }
     }
 
-    /// The parent of a span that has one, or the span itself.
+    /// The parent of a span, which has one where every span that is left is of a circle or under one.
     fn above(&self, placed: &[bool], span: usize) -> usize
         requires alike { length placed.now ≡ vec_len self.now.parents }
         requires left { IsLeft placed.now span }
         requires stuck { IsStuck self.now.parents.items placed.now }
-        ensures { IsLeft placed.now result }
+        ensures left { IsLeft placed.now result }
+        ensures parent { parent_of self.now.parents.items span ≡ Some result }
     {
         match self.parent(span) {
             Some(parent) => parent,
@@ -130,15 +131,18 @@ impl Family {
         }
     }
 
-    /// The span that is so many steps above.
+    /// The span as many steps up as there are spans. The walk has come to one of them twice by then, so that it goes
+    /// round a circle, which has no more spans than there are.
     fn far_above(&self, placed: &[bool], span: usize) -> usize
         requires alike { length placed.now ≡ vec_len self.now.parents }
         requires left { IsLeft placed.now span }
         requires stuck { IsStuck self.now.parents.items placed.now }
-        ensures { IsLeft placed.now result }
+        ensures left { IsLeft placed.now result }
+        ensures circle { (steps : ℕ) × (steps < vec_len self.now.parents)
+            × (ancestor self.now.parents.items (suc steps) result ≡ Some result) }
     {
         let mut above = span;
-        for _ in 0..self.parents.len() {
+        for _steps in 0..self.parents.len() {
             above = self.above(placed, above);
         }
         above
@@ -150,11 +154,12 @@ impl Family {
         requires alike { length placed.now ≡ vec_len self.now.parents }
         requires left { IsLeft placed.now span }
         requires stuck { IsStuck self.now.parents.items placed.now }
-        ensures { IsLeft placed.now result }
+        ensures left { IsLeft placed.now result }
+        ensures head { IsHead self.now.marks.items self.now.parents.items result }
     {
         let mut above = self.far_above(placed, span);
         let mut head = above;
-        for _ in 0..self.parents.len() {
+        for _steps in 0..self.parents.len() {
             above = self.above(placed, above);
             if self.is_before(above, head) {
                 head = above;
@@ -167,7 +172,8 @@ impl Family {
     fn next_span(&self, placed: &[bool]) -> Option<usize>
         requires { length placed.now ≡ vec_len self.now.parents }
         ensures left { IfSome result (λ span. IsLeft placed.now span) }
-        ensures turn { IfSome result (λ span. IsTurn self.now.parents.items placed.now span) }
+        ensures turn { IfSome result (λ span.
+            IsTurn self.now.marks.items self.now.parents.items placed.now span) }
         ensures last { IfSome result (λ span.
             IsLastReady self.now.marks.items self.now.parents.items placed.now span) }
         ensures none { IfNone result ((span : ℕ) → ¬ IsLeft placed.now span) }
@@ -217,7 +223,7 @@ impl Family {
     fn put_in(&self, rows: &mut Vec<Row>, placed: &[bool], span: usize) -> Result<(), AllocError>
         requires placed { ArePlaced self.now.marks.items self.now.parents.items placed.now rows.old.items }
         requires left { IsLeft placed.now span }
-        requires turn { IsTurn self.now.parents.items placed.now span }
+        requires turn { IsTurn self.now.marks.items self.now.parents.items placed.now span }
         requires last { IsLastReady self.now.marks.items self.now.parents.items placed.now span }
         ensures { OnOk result (IsPutIn self.now.marks.items self.now.parents.items placed.now
             rows.old.items rows.new.items span) }
@@ -236,7 +242,8 @@ impl Family {
     }
 }
 
-/// The rows of a trace's picture: one a span, each after its parent's, and siblings by start.
+/// The rows of a trace's picture: one a span, each after its parent's, or at the left if it has none or is the first of
+/// a circle, and siblings by start.
 pub(crate) fn rows(alloc: Global, family: &Family) -> Result<Vec<Row>, AllocError>
     ensures { IfOk result (λ rows. AreRows family.now.marks.items rows.items) }
 {

@@ -36,7 +36,8 @@ returns c =
         family.marks.ok.0,
         family.alike,
       );
-      under = subst (λ parents. StandUnder parents [] c.loop-span.rows.items) family.of_marks placed.under;
+      under = subst (λ parents. StandUnder family.marks.items parents [] c.loop-span.rows.items) family.of_marks
+          placed.under;
       in_order = subst (λ parents. AreInOrder family.marks.items parents c.loop-span.rows.items) family.of_marks
           placed.in_order;
     }

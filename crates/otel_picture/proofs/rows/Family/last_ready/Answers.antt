@@ -6,7 +6,8 @@ use Rattle.std.proofs.lemmas.Bool.{cases_lt, false≢true}
 use Rattle.otel_picture.specs.Orders.{comes_before}
 use Rattle.otel_picture.specs.declared.rows.Mark.{Mark}
 use Rattle.otel_picture.proofs.Ordering.{not_before, not_both, not_itself}
-use Rattle.otel_picture.specs.Rows.{is_over, is_ready, parent_of}
+use Rattle.otel_picture.specs.Parents.{parent_of}
+use Rattle.otel_picture.specs.Rows.{is_over, is_ready}
 use Rattle.otel_picture.proofs.rows.Family.last_ready.Goals as goal
 use Rattle.otel_picture.proofs.rows.Family.last_ready.Goals.{then-is_ready+then-not-follows, else-is_ready, else-is_ready-via-then-is_ready+else-not-follows, else-is_ready-via-else-is_ready}
 

@@ -4,7 +4,8 @@ use Rattle.std.proofs.Common.{MatchOption, count_by, refl, sym, ◌∙◌, arith
 use Rattle.std.specs.List.{AllWithin}
 use Rattle.std.proofs.lemmas.Iterator.{IsFirst-from_position, YieldsList-from_slice}
 use Rattle.std.proofs.lemmas.List.Sums.{sum_by-cons}
-use Rattle.otel_picture.specs.Rows.{parent_of, rows_of}
+use Rattle.otel_picture.specs.Parents.{parent_of}
+use Rattle.otel_picture.specs.Rows.{rows_of}
 use Rattle.otel_picture.specs.declared.rows.Row.{Row}
 use Rattle.otel_picture.proofs.rows.Family.parent_row.Goals as goal
 
