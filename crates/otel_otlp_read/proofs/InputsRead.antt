@@ -1,7 +1,7 @@
 -- The text of a batch, and the lines of batches, are read back.
 use Rattle.std.specs.Prelude.{◌&&◌, is_some}
 use Rattle.std.proofs.Common.{◌≡◌, ◌+◌, ◌==◌, ℕ, true, false, cond, List, [], ◌∷◌, ◌++◌, map, Some, Ok}
-use Rattle.std.proofs.Common.{refl, sym, ap, ◌∙◌, flat_map}
+use Rattle.std.proofs.Common.{refl, sym, ap, ◌∙◌, flat_map, append-nil}
 use Rattle.std.proofs.lemmas.Str.{is_utf8-from_IsUtf8}
 use Rattle.std.proofs.lemmas.List.{map-append}
 use Rattle.std.proofs.lemmas.List.Concat.{flat_map-cons}
@@ -16,15 +16,14 @@ use Rattle.otel_otlp.specs.Otlp.{otlp_lines, otlp_text}
 use Rattle.otel_shown.specs.Shown.{shown_span}
 use Rattle.otel_otlp_read.specs.Inputs.{PlainReadText, and_read, begins_with_json, is_blank, is_json, left_faults}
 use Rattle.otel_otlp_read.specs.Inputs.{nothing_read, of_document, of_line, one_if_none, read_document, read_input}
-use Rattle.otel_otlp_read.specs.Inputs.{read_lines, spanless_in, text_lines}
-use Rattle.otel_otlp_read.specs.Requests.{read_request, service_of, whole_span}
-use Rattle.otel_otlp_read.specs.SpanParts.{PlainReadSpan}
+use Rattle.otel_otlp_read.specs.Inputs.{read_lines, resource_faults, resource_shown, spanless_in, text_lines}
+use Rattle.otel_otlp_read.specs.Requests.{PlainReadResource, read_request, service_of, whole_batch, whole_span}
 use Rattle.otel_otlp_read.proofs.Documents.{read_json}
 
 -- a text that is UTF-8 and JSON
-pub document_back : (text : List ℕ) (j : Json) (spans : List PlainReadSpan) → IsUtf8 text → document text ≡ Some j
-    → read_request j ≡ Ok spans → read_document text ≡ Ok spans
-document_back text j spans utf8 is e = read_json text j utf8 is ∙ e
+pub document_back : (text : List ℕ) (j : Json) (reads : List PlainReadResource) → IsUtf8 text → document text ≡ Some j
+    → read_request j ≡ Ok reads → read_document text ≡ Ok reads
+document_back text j reads utf8 is e = read_json text j utf8 is ∙ e
 
 pub json_back : (text : List ℕ) (j : Json) → IsUtf8 text → document text ≡ Some j → is_json text ≡ true
 json_back text j utf8 is = ap (λ t. t && is_some (document text)) (is_utf8-from_IsUtf8 text utf8) ∙ ap is_some is
@@ -34,7 +33,7 @@ not_blank : (resource : PlainResource) (batch : List PlainSpanData) → is_blank
 unfolding print_from
 not_blank resource batch = refl
 
--- what is read of a batch: its spans as they are shown, and no attribute is left out
+-- what is read of a batch: its spans as they are shown, and nothing is left out
 abbrev pub read_of : List ℕ → List PlainSpanData → PlainReadText
 read_of service batch = record {
   spans = map (shown_span service) batch;
@@ -55,23 +54,32 @@ none_left line service (span ∷ batch) =
     ∙ none_left line service batch
 
 none_whole : (service : List ℕ) (batch : List PlainSpanData)
-    → one_if_none (map (whole_span service) batch) ≡ one_if_none batch
+    → one_if_none (map (shown_span service) batch) ≡ one_if_none batch
 none_whole service [] = refl
 none_whole service (span ∷ batch) = refl
 
-whole_document : (line : ℕ) (service : List ℕ) (batch : List PlainSpanData)
-    → of_document line (Ok (map (whole_span service) batch)) ≡ read_of service batch
-whole_document line service batch = λ i. record {
-  spans = spans_whole service batch i;
-  faults = none_left line service batch i;
-  spanless = none_whole service batch i;
-}
+whole_document : (line : ℕ) (resource : PlainResource) (batch : List PlainSpanData)
+    → of_document line (Ok (whole_batch resource batch ∷ [])) ≡ read_of (service_of resource) batch
+whole_document line resource batch =
+    let shown = resource_shown (whole_batch resource batch) in
+    let same :
+    flat_map resource_shown (whole_batch resource batch ∷ []) ≡ map (shown_span (service_of resource)) batch =
+    flat_map-cons resource_shown (whole_batch resource batch) []
+    ∙ append-nil shown ∙ spans_whole (service_of resource) batch in
+    let none : flat_map (resource_faults line) (whole_batch resource batch ∷ []) ≡ [] =
+    flat_map-cons (resource_faults line) (whole_batch resource batch) []
+    ∙ append-nil (resource_faults line (whole_batch resource batch)) ∙ none_left line (service_of resource) batch in
+    λ i. record {
+      spans = same i;
+      faults = none i;
+      spanless = (ap one_if_none same ∙ none_whole (service_of resource) batch) i;
+    }
 
 module _ (resource : PlainResource) where
   -- the text of a batch is JSON, and read as its spans
   pub record Reads (batch : List PlainSpanData) : Type 0 where
     pub json : is_json (otlp_text resource batch) ≡ true
-    pub spans : read_document (otlp_text resource batch) ≡ Ok (map (whole_span (service_of resource)) batch)
+    pub spans : read_document (otlp_text resource batch) ≡ Ok (whole_batch resource batch ∷ [])
 
   -- each batch is read, where each that fits is
   pub each_reads : (batches : List (List PlainSpanData))
@@ -89,7 +97,7 @@ module _ (resource : PlainResource) where
       ap (λ t. cond t nothing_read (of_document number (read_document (otlp_text resource batch))))
       (not_blank resource batch)
       ∙ ap (of_document number) h.spans
-      ∙ whole_document number (service_of resource) batch
+      ∙ whole_document number resource batch
 
   abbrev pub all_of : List (List PlainSpanData) → PlainReadText
   all_of batches = record {

@@ -1,4 +1,3 @@
-pub mod AttributeReading
 pub mod Depths
 pub mod Digits
 pub mod DigitsRead
@@ -6,10 +5,12 @@ pub mod Documents
 pub mod FirstByte
 pub mod InputsRead
 pub mod Items
+pub mod KeptReading
 pub mod LeftLines
 pub mod LineReading
 pub mod Listing
 pub mod RequestsRead
+pub mod ResourceReading
 pub mod SpansRead
 pub mod Turns
 pub mod ValuesRead

@@ -2,12 +2,13 @@
 use Rattle.std.proofs.Common.{◌≡◌, ◌+◌, ◌<◌, ◌≤◌, ◌⊎◌, ℕ, Bool, true, false, cond, List, [], ◌∷◌, Option, None, Some}
 use Rattle.std.proofs.Common.{Result, Ok, Err}
 use Rattle.std.proofs.Common.{IfSome, length, refl, sym, ap, ◌∙◌, arith, inl, inr, add_assoc, add-zero}
-use Rattle.std.proofs.Common.{append_assoc, append-nil}
+use Rattle.std.proofs.Common.{append_assoc, append-nil, flat_map}
 use Rattle.std.specs.Borrow.{Bor}
 use Rattle.otel_otlp_read.specs.declared.fault.Fault.{Fault}
-use Rattle.otel_otlp_read.specs.SpanParts.{PlainReadSpan}
+use Rattle.otel_otlp_read.specs.Requests.{PlainReadResource}
 use Rattle.otel_otlp_read.specs.Inputs.{PlainReadText, and_read, begins_with_json, is_blank, is_json, lines_after}
-use Rattle.otel_otlp_read.specs.Inputs.{nothing_read, of_document, of_line, one_if_none, read_document, read_input, read_lines, text_lines}
+use Rattle.otel_otlp_read.specs.Inputs.{nothing_read, of_document, of_line, one_if_none, read_document, read_input}
+use Rattle.otel_otlp_read.specs.Inputs.{read_lines, resource_shown, text_lines}
 use Rattle.otel_otlp_read.proofs.LeftLines.{left, left_text}
 
 -- the lines that are left, of which this is the first
@@ -58,8 +59,8 @@ one_small : {A : Type 0} (xs : List A) → one_if_none xs ≤ 1
 one_small [] = omega arith
 one_small (x ∷ xs) = omega arith
 
-document_few : (number : ℕ) (read : Result (List PlainReadSpan) Fault) → (of_document number read).spanless ≤ 1
-document_few number (Ok reads) = one_small reads
+document_few : (number : ℕ) (read : Result (List PlainReadResource) Fault) → (of_document number read).spanless ≤ 1
+document_few number (Ok reads) = one_small (flat_map resource_shown reads)
 document_few number (Err fault) = omega arith
 
 few_by : (t : Bool) (read : PlainReadText) → read.spanless ≤ 1 → (cond t nothing_read read).spanless ≤ 1

@@ -1,8 +1,8 @@
 -- A span that is written is read back as it is shown.
 use Rattle.std.proofs.Common.{◌≡◌, ◌<◌, ◌^◌, ℕ, pos, zero, suc, true, cond, List, [], ◌∷◌, map, codes, Some, Ok}
-use Rattle.std.proofs.Common.{◌+◌, refl, ap, sym, ◌∙◌, arith}
+use Rattle.std.proofs.Common.{refl, ap, ◌∙◌, arith}
 use borrow.Author.Tests.{ne_eqb}
-use Rattle.std.proofs.lemmas.List.Concat.{flat_map-cons, flat_map_single}
+use Rattle.std.proofs.lemmas.List.Concat.{flat_map_single}
 use Rattle.std.specs.Fmt.{decimal}
 use Rattle.std.specs.List.{AllByRecursion}
 use Rattle.opentelemetry.specs.Hex.{hex_text}
@@ -16,14 +16,17 @@ use Rattle.otel_otlp.specs.OtlpValues.{attribute_json}
 use Rattle.otel_shown.specs.Shown.{PlainShownEvent, shown_event}
 use Rattle.otel_shown.specs.Shown as shown
 use Rattle.otel_otlp_read.specs.declared.fault.Fault.TheVariants as faults
-use Rattle.otel_otlp_read.specs.Reading.{◌>>=◌, joined, needed, only}
+use Rattle.otel_otlp_read.specs.declared.left_out.ItemList.{ItemList}
+use Rattle.otel_otlp_read.specs.declared.left_out.ItemList.TheVariants as lists
+use Rattle.otel_otlp_read.specs.Kept.{kept_from}
+use Rattle.otel_otlp_read.specs.Reading.{◌>>=◌, needed, only}
 use Rattle.otel_otlp_read.specs.Requests.{whole_span}
 use Rattle.otel_otlp_read.specs.Numbers.{id_of, is_integer, moment_of, parent_number, parent_of, whole_number}
-use Rattle.otel_otlp_read.specs.SpanParts.{PlainAttributes, and_attributes, attributes_from, attributes_of}
-use Rattle.otel_otlp_read.specs.SpanParts.{event_in, events_of, kind_of, of_attribute}
+use Rattle.otel_otlp_read.specs.SpanParts.{attribute_line, attributes_of, event_in, events_of, kind_of}
 use Rattle.otel_otlp_read.specs.SpanParts.{numbered_code, numbered_kind, span_in, status_in, status_of}
 use Rattle.otel_otlp_read.proofs.DigitsRead.{decimal_whole, hex_id, hex_parent, signed_integer}
-use Rattle.otel_otlp_read.proofs.ValuesRead.{attribute_back, joined_back, listed-items_of}
+use Rattle.otel_otlp_read.proofs.KeptReading.{kept_back}
+use Rattle.otel_otlp_read.proofs.ValuesRead.{attribute_back, listed-items_of}
 
 -- a moment
 moment_back : (n : ℕ) → n < 2 ^ 64 → needed faults.TimeForm (whole_number (decimal n)) ≡ Ok n
@@ -64,28 +67,19 @@ event_back event h =
     ap (λ r. r >>= λ timestamp. Ok (record { timestamp = timestamp; name = event.name })) (moment_back event.timestamp h.timestamp)
 
 -- attributes, as they stand in a member: none is left out
-abbrev all_attributes : List PlainKeyValue → PlainAttributes
-all_attributes attributes = record { lines = shown.attribute_lines attributes; left_out = [] }
-
-attributes_back : (number : ℕ) (attributes : List PlainKeyValue) → AllByRecursion AttributeFits attributes
-    → attributes_from number (map attribute_json attributes) ≡ all_attributes attributes
-unfolding attributes_from
-attributes_back number [] h = refl
-attributes_back number (attribute ∷ attributes) h =
-    ap (λ r. and_attributes (of_attribute number r) (attributes_from (number + 1) (map attribute_json attributes)))
-    (attribute_back attribute h.0)
-    ∙ ap (and_attributes (record { lines = shown.attribute_line attribute; left_out = [] }))
-    (attributes_back (number + 1) attributes h.1)
-    ∙ ap (λ lines. record { lines = lines; left_out = [] })
-    (sym (flat_map-cons shown.attribute_line attribute attributes))
+attributes_back : (list : ItemList) (attributes : List PlainKeyValue) → AllByRecursion AttributeFits attributes
+    → kept_from attribute_line list 1 (map attribute_json attributes)
+    ≡ record { kept = shown.attribute_lines attributes; left_out = [] }
+attributes_back list = kept_back attribute_line list attribute_json shown.attribute_line AttributeFits attribute_back 1
 
 -- and events
-all_events_back : (events : List PlainEvent) → AllByRecursion EventFits events
-    → joined (λ item. only (event_in item)) (map event_json events) ≡ Ok (map shown_event events)
-all_events_back events h =
-    joined_back event_json (λ item. only (event_in item)) (λ e. shown_event e ∷ []) EventFits
-    (λ e k. ap only (event_back e k)) events h
-    ∙ ap Ok (flat_map_single shown_event events)
+all_events_back : (list : ItemList) (events : List PlainEvent) → AllByRecursion EventFits events
+    → kept_from (λ item. only (event_in item)) list 1 (map event_json events)
+    ≡ record { kept = map shown_event events; left_out = [] }
+all_events_back list events h =
+    kept_back (λ item. only (event_in item)) list event_json (λ e. shown_event e ∷ []) EventFits
+    (λ e k. ap only (event_back e k)) 1 events h
+    ∙ ap (λ kept. record { kept = kept; left_out = [] }) (flat_map_single shown_event events)
 
 -- the members of a span that is written
 module _ (span : PlainSpanData) (h : SpanFits span) where
@@ -114,17 +108,22 @@ module _ (span : PlainSpanData) (h : SpanFits span) where
   span_status_back : status_of (span_json span) ≡ Ok span.status
   span_status_back = status_back span.status
 
-  span_attributes_back : attributes_of (span_json span) ≡ Ok (all_attributes span.attributes)
+  span_attributes_back : (span_id : ℕ)
+      → attributes_of span_id (span_json span)
+      ≡ Ok (record { kept = shown.attribute_lines span.attributes; left_out = [] })
   unfolding attributes_of
-  span_attributes_back =
-      ap (λ js. Ok (attributes_from 1 js)) (listed-items_of (map attribute_json span.attributes))
-      ∙ ap Ok (attributes_back 1 span.attributes h.attributes)
+  span_attributes_back span_id =
+      ap (λ js. Ok (kept_from attribute_line (lists.SpanAttributes span_id) 1 js))
+      (listed-items_of (map attribute_json span.attributes))
+      ∙ ap Ok (attributes_back (lists.SpanAttributes span_id) span.attributes h.attributes)
 
-  span_events_back : events_of (span_json span) ≡ Ok (map shown_event span.events.events)
+  span_events_back : (span_id : ℕ)
+      → events_of span_id (span_json span) ≡ Ok (record { kept = map shown_event span.events.events; left_out = [] })
   unfolding events_of
-  span_events_back =
-      ap (joined (λ item. only (event_in item))) (listed-items_of (map event_json span.events.events))
-      ∙ all_events_back span.events.events h.events
+  span_events_back span_id =
+      ap (λ js. Ok (kept_from (λ item. only (event_in item)) (lists.SpanEvents span_id) 1 js))
+      (listed-items_of (map event_json span.events.events))
+      ∙ ap Ok (all_events_back (lists.SpanEvents span_id) span.events.events h.events)
 
   pub span_back : (service : List ℕ) → span_in service (span_json span) ≡ Ok (whole_span service span)
   unfolding span_in
@@ -137,6 +136,6 @@ module _ (span : PlainSpanData) (h : SpanFits span) where
         start_back,
         end_back,
         span_status_back,
-        span_attributes_back,
-        span_events_back,
+        span_attributes_back span.span_context.span_id,
+        span_events_back span.span_context.span_id,
       ) refl

@@ -5,23 +5,23 @@ use Rattle.std.specs.List.{flat_map, list_all, slice_split}
 use Rattle.std.specs.Str.{is_utf8}
 use Rattle.json.specs.Json.{Json, document}
 use Rattle.otel_shown.specs.Shown.{PlainShownSpan}
-use Rattle.otel_otlp_read.specs.declared.attributes.LeftOut.{LeftOut}
 use Rattle.otel_otlp_read.specs.declared.fault.Fault.{Fault}
 use Rattle.otel_otlp_read.specs.declared.fault.Fault.TheVariants as faults
 use Rattle.otel_otlp_read.specs.declared.input.LineFault.{LineFault}
-use Rattle.otel_otlp_read.specs.Requests.{read_request}
+use Rattle.otel_otlp_read.specs.declared.left_out.LeftOut.{LeftOut}
+use Rattle.otel_otlp_read.specs.Requests.{PlainReadResource, read_request}
 use Rattle.otel_otlp_read.specs.SpanParts.{PlainReadSpan}
 
 -- the spans of the request that a text is, if it is JSON
-abbrev pub read_parsed : Option Json → Result (List PlainReadSpan) Fault
+abbrev pub read_parsed : Option Json → Result (List PlainReadResource) Fault
 read_parsed None = Err faults.NotJson
 read_parsed (Some j) = read_request j
 
-unfoldable pub read_document : List ℕ → Result (List PlainReadSpan) Fault
+unfoldable pub read_document : List ℕ → Result (List PlainReadResource) Fault
 read_document text = if is_utf8 text then read_parsed (document text) else Err faults.NotJson
 
--- what is read of an input: its spans in order, the faults of its lines with the attributes that were left out, and how
--- many requests had no spans
+-- what is read of an input: its spans in order, the faults of its lines with what was left out of them, and how many
+-- requests had no spans
 pub record PlainReadText : Type 0 where
   pub spans : List PlainShownSpan
   pub faults : List LineFault
@@ -65,27 +65,36 @@ abbrev pub spanless_in : {A : Type 0} → List (List A) → ℕ
 spanless_in [] = 0
 spanless_in (batch ∷ batches) = one_if_none batch + spanless_in batches
 
--- an attribute that was left out of a span of a document that begins in a line
-abbrev pub left_fault : ℕ → ℕ → LeftOut → LineFault
-left_fault line span_id left = record {
-  line = line;
-  attribute = Some (record { span_id = span_id; number = left.number });
-  fault = left.fault;
-}
+-- what was left out of a document that begins in a line
+abbrev pub left_fault : ℕ → LeftOut → LineFault
+left_fault line left = record { line = line; item = Some left.item; fault = left.fault }
 
+-- out of a span of it
 abbrev pub left_faults : ℕ → PlainReadSpan → List LineFault
-left_faults line read = map (left_fault line read.span.span_id) read.left_out
+left_faults line read = map (left_fault line) read.left_out
+
+-- and out of a resource of it, and then of the spans of that
+abbrev pub resource_faults : ℕ → PlainReadResource → List LineFault
+resource_faults line read = map (left_fault line) read.left_out ++ flat_map (left_faults line) read.spans
+
+-- the spans of a resource
+abbrev pub resource_shown : PlainReadResource → List PlainShownSpan
+resource_shown read = map (λ span. span.span) read.spans
+
+-- 1 where no resource has a span
+abbrev pub one_if_spanless : List PlainReadResource → ℕ
+one_if_spanless reads = one_if_none (flat_map resource_shown reads)
 
 -- a document that begins in a line: its spans, or its fault
-abbrev pub of_document : ℕ → Result (List PlainReadSpan) Fault → PlainReadText
+abbrev pub of_document : ℕ → Result (List PlainReadResource) Fault → PlainReadText
 of_document line (Ok reads) = record {
-  spans = map (λ read. read.span) reads;
-  faults = flat_map (left_faults line) reads;
-  spanless = one_if_none reads;
+  spans = flat_map resource_shown reads;
+  faults = flat_map (resource_faults line) reads;
+  spanless = one_if_spanless reads;
 }
 of_document line (Err fault) = record {
   spans = [];
-  faults = record { line = line; attribute = None; fault = fault } ∷ [];
+  faults = record { line = line; item = None; fault = fault } ∷ [];
   spanless = 0;
 }
 

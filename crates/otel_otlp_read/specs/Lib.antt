@@ -1,6 +1,7 @@
 pub mod Faults
 pub mod Reading
 pub mod Members
+pub mod Kept
 pub mod Numbers
 pub mod AnyValue
 pub mod SpanParts

@@ -1,6 +1,5 @@
 -- What is read of a JSON value: a value, or the first fault that is met. And what a call that reads answers.
 use Rattle.std.specs.Prelude.{◌≡◌, List, [], ◌∷◌, ◌++◌, Option, Some, None, Result, Ok, Err}
-use Rattle.json.specs.Json.{Json}
 use Rattle.otel_otlp_read.specs.declared.fault.Fault.{Fault}
 use Rattle.otel_otlp_read.specs.declared.fault.ReadError.{ReadError}
 use Rattle.otel_otlp_read.specs.declared.fault.ReadError.TheVariants as errors
@@ -35,9 +34,9 @@ abbrev pub grown : {A : Type 0} → List A → Result (List A) Fault → Result 
 grown front read = read >>= λ more. Ok (front ++ more)
 
 -- what is read of one item after the other, joined
-abbrev pub joined : {A : Type 0} → (Json → Result (List A) Fault) → List Json → Result (List A) Fault
+abbrev pub joined : {X A : Type 0} → (X → Result (List A) Fault) → List X → Result (List A) Fault
 joined read [] = Ok []
-joined read (j ∷ js) = read j >>= λ first. joined read js >>= λ others. Ok (first ++ others)
+joined read (x ∷ xs) = read x >>= λ first. joined read xs >>= λ others. Ok (first ++ others)
 
 -- a list of one
 abbrev pub only : {A : Type 0} → Result A Fault → Result (List A) Fault

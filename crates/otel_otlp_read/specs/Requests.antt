@@ -1,6 +1,7 @@
 -- The spans of an `ExportTraceServiceRequest` in the OpenTelemetry protocol's JSON (OTLP 1.7, "JSON Protobuf Encoding"),
 -- in order.
-use Rattle.std.specs.Prelude.{ℕ, ◌||◌, Bool, false, true, List, [], ◌∷◌, codes, Result, Ok, Err, if◌then◌else◌, is_some}
+use Rattle.std.specs.Prelude.{ℕ, ◌+◌, ◌||◌, Bool, false, true, List, [], ◌∷◌, codes, Option, Some, None}
+use Rattle.std.specs.Prelude.{Result, Ok, Err, if◌then◌else◌, is_some, map}
 use Rattle.std.specs.Str.{bytes_eq}
 use Rattle.std.specs.FinMap.{entries}
 use Rattle.json.specs.Json.{Json, null, boolean, number, string, array, object, no_members, member}
@@ -12,7 +13,10 @@ use Rattle.otel_export.specs.PlainSpanData.{PlainSpanData}
 use Rattle.otel_shown.specs.Shown.{shown_span}
 use Rattle.otel_otlp_read.specs.declared.fault.Fault.{Fault}
 use Rattle.otel_otlp_read.specs.declared.fault.Fault.TheVariants as faults
+use Rattle.otel_otlp_read.specs.declared.left_out.ItemList.TheVariants as lists
+use Rattle.otel_otlp_read.specs.declared.left_out.LeftOut.{LeftOut}
 use Rattle.otel_otlp_read.specs.Reading.{◌>>=◌, joined, only}
+use Rattle.otel_otlp_read.specs.Kept.{Kept, kept_of, none_kept}
 use Rattle.otel_otlp_read.specs.Members.{given, list_of, object_or, or_default, text_of}
 use Rattle.otel_otlp_read.specs.AnyValue.{shown_value}
 use Rattle.otel_otlp_read.specs.SpanParts.{PlainReadSpan, span_in}
@@ -21,23 +25,32 @@ use Rattle.otel_otlp_read.specs.SpanParts.{PlainReadSpan, span_in}
 abbrev pub value_member : Json → Result (List ℕ) Fault
 value_member j = or_default [] (shown_value 64 false) (given (codes "value") j)
 
--- the name of the service among attributes: the text of the first one with the key `service.name`
-abbrev pub named_service : List Json → Result (List ℕ) Fault
-named_service [] = Ok []
-named_service (j ∷ js) = do
+-- a list of what is there
+abbrev pub list_of_option : {A : Type 0} → Option A → List A
+list_of_option None = []
+list_of_option (Some x) = x ∷ []
+
+-- the name that an attribute gives the service, if it has that key; it does not read where its key does not, or where
+-- it has that key and its value does not
+unfoldable pub named_in : Json → Result (List (List ℕ)) Fault
+named_in j = do
   _ ← object_or faults.AttributeType j
   key ← text_of (codes "key") faults.KeyType j
-  if bytes_eq key (codes "service.name") then value_member j else named_service js
+  if bytes_eq key (codes "service.name") then only (value_member j) else Ok []
 
--- the name of the service that a resource describes
-unfoldable pub service_in : Json → Result (List ℕ) Fault
-service_in j = do
+-- the names of the service that a resource gives, the one of this number
+unfoldable pub service_in : ℕ → Json → Result (Kept (List ℕ)) Fault
+service_in n j = do
   _ ← object_or faults.ResourceType j
-  items ← list_of (codes "attributes") faults.AttributesType j
-  named_service items
+  kept_of named_in (lists.ResourceAttributes n) (codes "attributes") faults.AttributesType j
 
-abbrev pub service_member : Json → Result (List ℕ) Fault
-service_member j = or_default [] service_in (given (codes "resource") j)
+abbrev pub service_member : ℕ → Json → Result (Kept (List ℕ)) Fault
+service_member n j = or_default none_kept (service_in n) (given (codes "resource") j)
+
+-- the first one, empty where there is none
+abbrev pub first_or_empty : List (List ℕ) → List ℕ
+first_or_empty [] = []
+first_or_empty (name ∷ names) = name
 
 -- the spans of one scope
 unfoldable pub scope_spans_in : List ℕ → Json → Result (List PlainReadSpan) Fault
@@ -55,14 +68,25 @@ is_misnamed j =
 abbrev pub well_named : Json → Result (Unit {0}) Fault
 well_named j = if is_misnamed j then Err faults.ScopeSpansName else Ok tt
 
--- the spans of one resource
-unfoldable pub resource_spans_in : Json → Result (List PlainReadSpan) Fault
-resource_spans_in j = do
+-- the spans of a resource, and which of its attributes were left out
+pub record PlainReadResource : Type 0 where
+  pub spans : List PlainReadSpan
+  pub left_out : List LeftOut
+
+-- the spans of one resource, the one of this number, under the first name that it gives the service
+unfoldable pub resource_spans_in : ℕ → Json → Result PlainReadResource Fault
+resource_spans_in n j = do
   _ ← object_or faults.ResourceSpansItem j
   _ ← well_named j
-  service ← service_member j
+  names ← service_member n j
   items ← list_of (codes "scopeSpans") faults.ScopeSpansType j
-  joined (scope_spans_in service) items
+  spans ← joined (scope_spans_in (first_or_empty names.kept)) items
+  Ok (record { spans = spans; left_out = names.left_out })
+
+-- values by their numbers, of which the first has this one
+abbrev pub numbered : {A : Type 0} → ℕ → List A → List (ℕ × A)
+numbered n [] = []
+numbered n (x ∷ xs) = (n, x) ∷ numbered (n + 1) xs
 
 -- an object that says nothing
 abbrev pub is_empty_object : Json → Bool
@@ -83,13 +107,13 @@ is_request j =
 abbrev pub known_request : Json → Result (Unit {0}) Fault
 known_request j = if is_request j then Ok tt else Err faults.ResourceSpansMissing
 
--- the spans of a request, none where it says nothing of spans
-unfoldable pub read_request : Json → Result (List PlainReadSpan) Fault
+-- the spans of a request, resource by resource, none where it says nothing of spans
+unfoldable pub read_request : Json → Result (List PlainReadResource) Fault
 read_request j = do
   _ ← object_or faults.RequestType j
   _ ← known_request j
   items ← list_of (codes "resourceSpans") faults.ResourceSpansType j
-  joined resource_spans_in items
+  joined (λ item. only (resource_spans_in item.0 item.1)) (numbered 1 items)
 
 -- the name of the service that a resource of ours says: the text of its attribute `service.name`, empty where it has none
 abbrev pub first_named : List (List ℕ × PlainValue) → List ℕ
@@ -103,3 +127,7 @@ service_of resource = first_named (entries resource.attributes)
 -- what is read of a span of ours, of a service: all of it
 abbrev pub whole_span : List ℕ → PlainSpanData → PlainReadSpan
 whole_span service span = record { span = shown_span service span; left_out = [] }
+
+-- what is read of a batch of ours: all of it
+abbrev pub whole_batch : PlainResource → List PlainSpanData → PlainReadResource
+whole_batch resource batch = record { spans = map (whole_span (service_of resource)) batch; left_out = [] }

@@ -1,19 +1,21 @@
 -- A span of a request, with its kind, its status, its attributes and its events. What is not shown is not looked at. An
--- attribute that does not read is left out.
-use Rattle.std.specs.Prelude.{ℕ, ◌+◌, List, [], ◌∷◌, ◌++◌, codes, Result, Ok, Err, if◌then◌else◌, false}
+-- attribute or an event that does not read is left out.
+use Rattle.std.specs.Prelude.{ℕ, List, ◌∷◌, ◌++◌, codes, Result, Ok, Err, if◌then◌else◌, false}
 use Rattle.std.specs.Str.{bytes_eq}
 use Rattle.json.specs.Json.{Json, null, boolean, number, string, array, object}
 use Rattle.opentelemetry.specs.Plain.{PlainStatus, unset, error, ok}
 use Rattle.opentelemetry.specs.declared.trace.span_kind.SpanKind.{SpanKind}
 use Rattle.opentelemetry.specs.declared.trace.span_kind.SpanKind.TheVariants as kinds
 use Rattle.otel_shown.specs.Shown.{PlainShownEvent, PlainShownSpan}
-use Rattle.otel_otlp_read.specs.declared.attributes.LeftOut.{LeftOut}
 use Rattle.otel_otlp_read.specs.declared.fault.Fault.{Fault}
 use Rattle.otel_otlp_read.specs.declared.fault.Fault.TheVariants as faults
+use Rattle.otel_otlp_read.specs.declared.left_out.ItemList.TheVariants as lists
+use Rattle.otel_otlp_read.specs.declared.left_out.LeftOut.{LeftOut}
 use Rattle.otel_otlp_read.specs.declared.status.StatusCode.{StatusCode}
 use Rattle.otel_otlp_read.specs.declared.status.StatusCode.TheVariants as status_codes
-use Rattle.otel_otlp_read.specs.Reading.{◌>>=◌, joined, only}
-use Rattle.otel_otlp_read.specs.Members.{given, list_of, object_or, or_default, text_of}
+use Rattle.otel_otlp_read.specs.Reading.{◌>>=◌, only}
+use Rattle.otel_otlp_read.specs.Kept.{Kept, kept_of}
+use Rattle.otel_otlp_read.specs.Members.{given, object_or, or_default, text_of}
 use Rattle.otel_otlp_read.specs.Numbers.{id_of, is_integer, moment_of, parent_of, spells}
 use Rattle.otel_otlp_read.specs.AnyValue.{shown_pair, shown_value}
 
@@ -92,32 +94,9 @@ status_of j = or_default unset status_in (given (codes "status") j)
 unfoldable pub attribute_line : Json → Result (List ℕ) Fault
 attribute_line j = shown_pair (shown_value 64 false) j >>= λ text. Ok (10 ∷ text)
 
--- what is read of attributes: their lines, and those that were left out, by their numbers from 1, with why
-pub record PlainAttributes : Type 0 where
-  pub lines : List ℕ
-  pub left_out : List LeftOut
-
-abbrev pub no_attributes : PlainAttributes
-no_attributes = record { lines = []; left_out = [] }
-
-abbrev pub and_attributes : PlainAttributes → PlainAttributes → PlainAttributes
-and_attributes first second = record {
-  lines = first.lines ++ second.lines;
-  left_out = first.left_out ++ second.left_out;
-}
-
--- what is read of one of them
-abbrev pub of_attribute : ℕ → Result (List ℕ) Fault → PlainAttributes
-of_attribute n (Ok line) = record { lines = line; left_out = [] }
-of_attribute n (Err fault) = record { lines = []; left_out = record { number = n; fault = fault } ∷ [] }
-
--- what is read of attributes, the first of which has this number
-unfoldable pub attributes_from : ℕ → List Json → PlainAttributes
-attributes_from n [] = no_attributes
-attributes_from n (j ∷ js) = and_attributes (of_attribute n (attribute_line j)) (attributes_from (n + 1) js)
-
-unfoldable pub attributes_of : Json → Result PlainAttributes Fault
-attributes_of j = list_of (codes "attributes") faults.AttributesType j >>= λ items. Ok (attributes_from 1 items)
+-- the attributes of a span: their lines
+unfoldable pub attributes_of : ℕ → Json → Result (Kept ℕ) Fault
+attributes_of span_id = kept_of attribute_line (lists.SpanAttributes span_id) (codes "attributes") faults.AttributesType
 
 unfoldable pub event_in : Json → Result PlainShownEvent Fault
 event_in j = do
@@ -126,10 +105,11 @@ event_in j = do
   name ← text_of (codes "name") faults.NameType j
   Ok (record { timestamp = timestamp; name = name })
 
-unfoldable pub events_of : Json → Result (List PlainShownEvent) Fault
-events_of j = list_of (codes "events") faults.EventsType j >>= λ items. joined (λ item. only (event_in item)) items
+unfoldable pub events_of : ℕ → Json → Result (Kept PlainShownEvent) Fault
+events_of span_id =
+    kept_of (λ item. only (event_in item)) (lists.SpanEvents span_id) (codes "events") faults.EventsType
 
--- a span as it is shown, and which of its attributes were left out
+-- a span as it is shown, and which of its attributes and events were left out
 pub record PlainReadSpan : Type 0 where
   pub span : PlainShownSpan
   pub left_out : List LeftOut
@@ -146,8 +126,8 @@ span_in service j = do
   start_time ← moment_of (codes "startTimeUnixNano") j
   end_time ← moment_of (codes "endTimeUnixNano") j
   status ← status_of j
-  attributes ← attributes_of j
-  events ← events_of j
+  attributes ← attributes_of span_id j
+  events ← events_of span_id j
   Ok (record {
     span = record {
       trace_id = trace_id;
@@ -159,8 +139,8 @@ span_in service j = do
       start_time = start_time;
       end_time = end_time;
       status = status;
-      attributes = attributes.lines;
-      events = events;
+      attributes = attributes.kept;
+      events = events.kept;
     };
-    left_out = attributes.left_out;
+    left_out = attributes.left_out ++ events.left_out;
   })

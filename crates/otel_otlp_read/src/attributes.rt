@@ -1,23 +1,20 @@
-//! The attributes of a span, as lines of one text. One that does not read is left out, and named by its number.
+//! The attributes of a span, as lines of one text. One that does not read is left out, and named by its place.
 
 ghost use Rattle.std.specs.Prelude.{◌≡◌, IfOk, OnOk, map, string_bytes};
 ghost use Rattle.json.specs.Value.{value_view};
+ghost use Rattle.otel_otlp_read.specs.declared.left_out.ItemList.TheVariants.{SpanAttributes};
+ghost use Rattle.otel_otlp_read.specs.Kept.{kept_from};
 ghost use Rattle.otel_otlp_read.specs.Reading.{Gives};
-ghost use Rattle.otel_otlp_read.specs.SpanParts.{attribute_line, attributes_from, attributes_of};
+ghost use Rattle.otel_otlp_read.specs.SpanParts.{attribute_line, attributes_of};
 
 use crate::fault::{Fault, ReadError};
+use crate::left_out::{ItemList, ItemPlace, LeftOut};
 use crate::member::list;
 use crate::value::{VALUE_DEPTH, push_pair};
 use json::Value;
+use opentelemetry::SpanId;
 use std::alloc::{AllocError, Global};
 use std::marker::Model;
-
-/// An attribute that does not read: its number in its span, from 1, and why.
-#[derive(Clone, Copy, Debug, PartialEq, Eq)]
-pub struct LeftOut {
-    pub number: u64,
-    pub fault: Fault,
-}
 
 /// The lines of the attributes that read, and the others.
 #[derive(Drop)]
@@ -27,20 +24,20 @@ pub(crate) struct ReadAttributes {
 }
 
 impl Model for ReadAttributes {
-    ghost use Rattle.std.specs.Prelude.{string_bytes};
-    ghost use Rattle.otel_otlp_read.specs.SpanParts.{PlainAttributes};
+    ghost use Rattle.std.specs.Prelude.{ℕ, string_bytes};
+    ghost use Rattle.otel_otlp_read.specs.Kept.{Kept};
 
-    ghost Value = { PlainAttributes };
+    ghost Value = { Kept ℕ };
 
-    ghost view = { λ read. record { lines = string_bytes read.lines; left_out = read.left_out.items } };
+    ghost view = { λ read. record { kept = string_bytes read.lines; left_out = read.left_out.items } };
 }
 
 impl ReadAttributes {
-    ghost use Rattle.otel_otlp_read.specs.SpanParts.{and_attributes, no_attributes, of_attribute};
+    ghost use Rattle.otel_otlp_read.specs.Kept.{and_kept, none_kept, of_item};
 
     /// None.
     fn new(alloc: Global) -> ReadAttributes
-        ensures { result ≡ no_attributes }
+        ensures { result ≡ none_kept }
     {
         ReadAttributes {
             lines: String::new(alloc),
@@ -48,15 +45,20 @@ impl ReadAttributes {
         }
     }
 
-    /// Appends the attribute of a number. The line is room for its text.
-    fn add(&mut self, number: u64, attribute: &Value, line: &mut String) -> Result<(), AllocError>
+    /// Appends the attribute at a place. The line is room for its text.
+    fn add(
+        &mut self,
+        item: ItemPlace,
+        attribute: &Value,
+        line: &mut String,
+    ) -> Result<(), AllocError>
         ensures { OnOk result (self.new
-            ≡ and_attributes self.old (of_attribute number (attribute_line (value_view attribute.now)))) }
+            ≡ and_kept self.old (of_item item (attribute_line (value_view attribute.now)))) }
     {
         match write_attribute(line, attribute) {
             Ok(()) => self.lines.push_str(line.as_str()),
             Err(ReadError::Fault(fault)) => {
-                self.left_out.push(LeftOut { number, fault })?;
+                self.left_out.push(LeftOut { item, fault })?;
                 Ok(())
             }
             Err(ReadError::OutOfMemory) => Err(AllocError),
@@ -74,22 +76,33 @@ fn write_attribute(line: &mut String, attribute: &Value) -> Result<(), ReadError
 }
 
 /// What is read of attributes, one after the other.
-fn each_attribute(alloc: Global, items: &[Value]) -> Result<ReadAttributes, AllocError>
-    ensures { IfOk result (λ read. read ≡ attributes_from 1 (map value_view items.now)) }
+fn each_attribute(
+    alloc: Global,
+    span_id: SpanId,
+    items: &[Value],
+) -> Result<ReadAttributes, AllocError>
+    ensures { IfOk result (λ read. read
+        ≡ kept_from attribute_line (SpanAttributes span_id) 1 (map value_view items.now)) }
 {
     let mut read = ReadAttributes::new(alloc);
     let mut line = String::new(alloc);
-    for (place, item) in items.iter().enumerate() {
-        read.add(place as u64 + 1, item, &mut line)?;
+    for (place, attribute) in items.iter().enumerate() {
+        let list = ItemList::SpanAttributes(span_id);
+        let number = place as u64 + 1;
+        read.add(ItemPlace { list, number }, attribute, &mut line)?;
     }
     Ok(read)
 }
 
 /// What is read of the attributes of a span, in order.
 #[tactic(auto, unfolding(crate::specs::SpanParts::attributes_of))]
-pub(crate) fn attributes(alloc: Global, span: &Value) -> Result<ReadAttributes, ReadError>
-    ensures { Gives (λ read. read) result (attributes_of (value_view span.now)) }
+pub(crate) fn attributes(
+    alloc: Global,
+    span_id: SpanId,
+    span: &Value,
+) -> Result<ReadAttributes, ReadError>
+    ensures { Gives (λ read. read) result (attributes_of span_id (value_view span.now)) }
 {
     let items = list(span, "attributes", Fault::AttributesType)?;
-    Ok(each_attribute(alloc, items)?)
+    Ok(each_attribute(alloc, span_id, items)?)
 }

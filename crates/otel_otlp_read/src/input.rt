@@ -3,36 +3,30 @@
 ghost use Rattle.std.specs.Prelude.{◌≡◌, ◌+◌, ◌++◌, ◌^◌, ◌<◌, ◌≤◌, IfOk, OnOk, map};
 ghost use Rattle.std.specs.List.{flat_map};
 ghost use Rattle.otel_otlp_read.specs.Inputs.{begins_with_json, is_json, left_fault, left_faults, of_document};
-ghost use Rattle.otel_otlp_read.specs.Inputs.{one_if_none, read_document, read_input, read_lines, text_lines};
+ghost use Rattle.otel_otlp_read.specs.Inputs.{read_document, read_input, read_lines, resource_faults, resource_shown};
+ghost use Rattle.otel_otlp_read.specs.Inputs.{one_if_spanless, text_lines};
 
-use crate::attributes::LeftOut;
 use crate::document::read_document;
 use crate::fault::{Fault, ReadError};
+use crate::left_out::{ItemPlace, LeftOut};
 use crate::lines::{first_line, is_blank};
+use crate::request::ReadResource;
 use crate::span::ReadSpan;
 use json::{Scratch, is_valid};
-use opentelemetry::SpanId;
 use otel_shown::ShownSpan;
 use std::alloc::{AllocError, Global};
 use std::marker::Model;
 
-/// Which attribute it is: of which span, and its number there, from 1.
-#[derive(Clone, Copy, Debug, PartialEq, Eq)]
-pub struct AttributePlace {
-    pub span_id: SpanId,
-    pub number: u64,
-}
-
-/// A line that could not be read, by its number from 1, and why; or an attribute of a line that was read without it.
+/// A line that could not be read, by its number from 1, and why; or an item of a line that was read without it.
 #[derive(Clone, Copy, Debug, PartialEq, Eq)]
 pub struct LineFault {
     pub line: u64,
-    pub attribute: Option<AttributePlace>,
+    pub item: Option<ItemPlace>,
     pub fault: Fault,
 }
 
 /// What an input holds: the spans of all its documents that read, in order; the other documents by their lines, and the
-/// attributes that were left out; and how many requests had no spans.
+/// attributes and events that were left out; and how many requests had no spans.
 #[derive(Debug, Drop)]
 pub struct ReadText {
     pub spans: Vec<ShownSpan>,
@@ -40,27 +34,25 @@ pub struct ReadText {
     pub spanless: u64,
 }
 
-/// Names attributes of a span that were left out.
+/// Names what was left out.
 fn push_left_out(
     faults: &mut Vec<LineFault>,
     line: u64,
-    span_id: SpanId,
     left_out: &[LeftOut],
 ) -> Result<(), AllocError>
-    ensures { OnOk result (faults.new.items ≡ faults.old.items ++ map (left_fault line span_id) left_out.now) }
+    ensures { OnOk result (faults.new.items ≡ faults.old.items ++ map (left_fault line) left_out.now) }
 {
     for left in left_out {
-        let number = left.number;
         faults.push(LineFault {
             line,
-            attribute: Some(AttributePlace { span_id, number }),
+            item: Some(left.item),
             fault: left.fault,
         })?;
     }
     Ok(())
 }
 
-/// Appends spans of a document that begins in a line, and names the attributes that were left out of them.
+/// Appends spans of a document that begins in a line, and names what was left out of them.
 fn push_spans(
     spans: &mut Vec<ShownSpan>,
     faults: &mut Vec<LineFault>,
@@ -71,21 +63,53 @@ fn push_spans(
     ensures faults { OnOk result (faults.new.items ≡ faults.old.items ++ flat_map (left_faults line) reads.items) }
 {
     for ReadSpan { span, left_out } in reads {
-        push_left_out(faults, line, span.span_id, &left_out)?;
+        push_left_out(faults, line, &left_out)?;
         spans.push(span)?;
     }
     Ok(())
 }
 
-/// 1 where there is no span.
-fn one_if_none(reads: &[ReadSpan]) -> u64
-    ensures is { result ≡ one_if_none reads.now }
+/// Appends the spans of a resource, and names what was left out of it and of them.
+fn push_resource(
+    spans: &mut Vec<ShownSpan>,
+    faults: &mut Vec<LineFault>,
+    line: u64,
+    read: ReadResource,
+) -> Result<(), AllocError>
+    ensures spans { OnOk result (spans.new.items ≡ spans.old.items ++ resource_shown read) }
+    ensures faults { OnOk result (faults.new.items ≡ faults.old.items ++ resource_faults line read) }
+{
+    push_left_out(faults, line, &read.left_out)?;
+    push_spans(spans, faults, line, read.spans)
+}
+
+/// Appends the spans of resources, and names what was left out of them.
+fn push_resources(
+    spans: &mut Vec<ShownSpan>,
+    faults: &mut Vec<LineFault>,
+    line: u64,
+    reads: Vec<ReadResource>,
+) -> Result<(), AllocError>
+    ensures spans { OnOk result (spans.new.items ≡ spans.old.items ++ flat_map resource_shown reads.items) }
+    ensures faults { OnOk result (faults.new.items ≡ faults.old.items ++ flat_map (resource_faults line) reads.items) }
+{
+    for read in reads {
+        push_resource(spans, faults, line, read)?;
+    }
+    Ok(())
+}
+
+/// 1 where no resource has a span.
+fn one_if_spanless(reads: &[ReadResource]) -> u64
+    ensures is { result ≡ one_if_spanless reads.now }
     ensures small { result ≤ 1 }
 {
-    match reads {
-        [] => 1,
-        _ => 0,
+    for read in reads {
+        if !read.spans.is_empty() {
+            return 0;
+        }
     }
+    1
 }
 
 impl Model for ReadText {
@@ -127,13 +151,13 @@ impl ReadText {
     {
         match read_document(alloc, text, scratch) {
             Ok(reads) => {
-                self.spanless += one_if_none(&reads);
-                push_spans(&mut self.spans, &mut self.faults, number, reads)
+                self.spanless += one_if_spanless(&reads);
+                push_resources(&mut self.spans, &mut self.faults, number, reads)
             }
             Err(ReadError::Fault(fault)) => {
                 self.faults.push(LineFault {
                     line: number,
-                    attribute: None,
+                    item: None,
                     fault,
                 })?;
                 Ok(())
@@ -197,8 +221,8 @@ fn read_whole(alloc: Global, text: &[u8], scratch: &mut Scratch) -> Result<ReadT
 
 /// Reads an input: each line that is not blank is a document, lines counted from 1. Where the first such line is no
 /// JSON, and the text as a whole is, it is that one document, as a file that is laid out for people. A line that does
-/// not read is named, as is an attribute, and the spans of all others are there. Requests without spans, as those of
-/// metrics and logs, are counted. Fails only where memory runs out.
+/// not read is named, as is an attribute or an event, and the spans of all others are there. Requests without spans, as
+/// those of metrics and logs, are counted. Fails only where memory runs out.
 pub fn read_text(alloc: Global, text: &[u8]) -> Result<ReadText, AllocError>
     ensures { IfOk result (λ read. read ≡ read_input text.now) }
 {

@@ -1,8 +1,8 @@
 // SPDX-License-Identifier: Apache-2.0
 //! Spans out of the OpenTelemetry protocol's JSON, of any producer: the requests that this repository's exporter, other
 //! SDKs and the Collector's file exporter write, a line each or one over many lines. Members that are not shown, and
-//! names that are not known, are left out; an attribute that does not read is left out too, and that and any other part
-//! that does not read is named with its line.
+//! names that are not known, are left out; an attribute or an event that does not read is left out too, and that and
+//! any other part that does not read is named with its line.
 #![tactic(auto)]
 
 mod attributes;
@@ -12,6 +12,7 @@ mod fault;
 mod input;
 mod kind;
 pub mod laws;
+mod left_out;
 mod lines;
 mod member;
 mod number;
@@ -21,9 +22,9 @@ mod span;
 mod status;
 mod value;
 
-pub use attributes::LeftOut;
 pub use document::read_document;
 pub use fault::{Fault, ReadError};
-pub use input::{AttributePlace, LineFault, ReadText, read_text};
-pub use request::read_request;
+pub use input::{LineFault, ReadText, read_text};
+pub use left_out::{ItemList, ItemPlace, LeftOut};
+pub use request::{ReadResource, read_request};
 pub use span::ReadSpan;

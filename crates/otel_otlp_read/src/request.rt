@@ -1,19 +1,36 @@
-//! The spans of a request: of each resource, of each of its scopes, in order.
+//! The spans of a request: of each resource, of each of its scopes, in order; and what was left out of resources.
 
 ghost use Rattle.std.specs.Prelude.{◌≡◌, is_some, map};
 ghost use Rattle.json.specs.Find.{get};
 ghost use Rattle.json.specs.Value.{value_view};
 ghost use Rattle.otel_otlp_read.specs.Reading.{Gives, grown, joined, only};
 ghost use Rattle.otel_otlp_read.specs.Requests.{is_empty_object, is_misnamed, is_request, known_request, read_request};
-ghost use Rattle.otel_otlp_read.specs.Requests.{resource_spans_in, scope_spans_in, well_named};
+ghost use Rattle.otel_otlp_read.specs.Requests.{numbered, resource_spans_in, scope_spans_in, well_named};
 ghost use Rattle.otel_otlp_read.specs.SpanParts.{span_in};
 
 use crate::fault::{Fault, ReadError};
+use crate::left_out::LeftOut;
 use crate::member::{given, list, object};
 use crate::service::service;
 use crate::span::{ReadSpan, span};
 use json::Value;
 use std::alloc::Global;
+use std::marker::Model;
+
+/// The spans of a resource, and which of its attributes do not read.
+#[derive(Debug, Drop)]
+pub struct ReadResource {
+    pub spans: Vec<ReadSpan>,
+    pub left_out: Vec<LeftOut>,
+}
+
+impl Model for ReadResource {
+    ghost use Rattle.otel_otlp_read.specs.Requests.{PlainReadResource};
+
+    ghost Value = { PlainReadResource };
+
+    ghost view = { λ read. record { spans = read.spans.items; left_out = read.left_out.items } };
+}
 
 /// Appends spans of a service. On an error some of them may stand there, as with the functions below.
 fn push_spans(
@@ -84,26 +101,30 @@ fn well_named(resource_spans: &Value) -> Result<(), ReadError>
     Ok(())
 }
 
-/// Appends the spans of a resource.
+/// The spans of a resource, the one of this number.
 #[tactic(auto, unfolding(crate::specs::Requests::resource_spans_in))]
-fn push_resource(alloc: Global, out: &mut Vec<ReadSpan>, resource: &Value) -> Result<(), ReadError>
-    ensures { Gives (λ _. out.new.items) result
-        (grown out.old.items (resource_spans_in (value_view resource.now))) }
+fn resource_spans(alloc: Global, number: u64, resource: &Value) -> Result<ReadResource, ReadError>
+    ensures { Gives (λ read. read) result (resource_spans_in number (value_view resource.now)) }
 {
     object(resource, Fault::ResourceSpansItem)?;
     well_named(resource)?;
-    let service = service(alloc, resource)?;
+    let names = service(alloc, number, resource)?;
     let items = list(resource, "scopeSpans", Fault::ScopeSpansType)?;
-    push_scopes(alloc, out, service.as_str(), items)
+    let mut spans = Vec::new(alloc);
+    push_scopes(alloc, &mut spans, names.first(), items)?;
+    let left_out = names.left_out;
+    Ok(ReadResource { spans, left_out })
 }
 
 /// The spans of resources.
-fn each_resource(alloc: Global, items: &[Value]) -> Result<Vec<ReadSpan>, ReadError>
-    ensures { Gives (λ spans. spans.items) result (joined resource_spans_in (map value_view items.now)) }
+fn each_resource(alloc: Global, items: &[Value]) -> Result<Vec<ReadResource>, ReadError>
+    ensures { Gives (λ read. read.items) result
+        (joined (λ item. only (resource_spans_in item.0 item.1)) (numbered 1 (map value_view items.now))) }
 {
     let mut out = Vec::new(alloc);
-    for item in items {
-        push_resource(alloc, &mut out, item)?;
+    for (place, item) in items.iter().enumerate() {
+        let read = resource_spans(alloc, place as u64 + 1, item)?;
+        out.push(read)?;
     }
     Ok(out)
 }
@@ -147,11 +168,11 @@ fn known_request(request: &Value) -> Result<(), ReadError>
     Err(ReadError::Fault(Fault::ResourceSpansMissing))
 }
 
-/// The spans of an `ExportTraceServiceRequest`, in order; none where it says nothing of spans, as those of metrics and
-/// logs. An error is its first fault, or that memory ran out.
+/// The spans of an `ExportTraceServiceRequest`, resource by resource; none where it says nothing of spans, as those of
+/// metrics and logs. An error is its first fault, or that memory ran out.
 #[tactic(auto, unfolding(crate::specs::Requests::read_request))]
-pub fn read_request(alloc: Global, request: &Value) -> Result<Vec<ReadSpan>, ReadError>
-    ensures { Gives (λ spans. spans.items) result (read_request (value_view request.now)) }
+pub fn read_request(alloc: Global, request: &Value) -> Result<Vec<ReadResource>, ReadError>
+    ensures { Gives (λ read. read.items) result (read_request (value_view request.now)) }
 {
     object(request, Fault::RequestType)?;
     known_request(request)?;

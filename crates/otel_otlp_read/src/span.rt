@@ -1,13 +1,14 @@
-//! A span of a request, and which of its attributes were left out.
+//! A span of a request, and what was left out of it.
 
 ghost use Rattle.json.specs.Value.{value_view};
 ghost use Rattle.otel_otlp_read.specs.Reading.{Gives};
 ghost use Rattle.otel_otlp_read.specs.SpanParts.{span_in};
 
-use crate::attributes::{LeftOut, ReadAttributes, attributes};
-use crate::event::events;
+use crate::attributes::{ReadAttributes, attributes};
+use crate::event::{ReadEvents, events};
 use crate::fault::{Fault, ReadError};
 use crate::kind::kind;
+use crate::left_out::LeftOut;
 use crate::member::{object, text};
 use crate::number::{moment, parent_span_id, span_id, trace_id};
 use crate::status::status;
@@ -16,7 +17,7 @@ use otel_shown::ShownSpan;
 use std::alloc::Global;
 use std::marker::Model;
 
-/// A span as it is shown, and which of its attributes do not read.
+/// A span as it is shown, and which of its attributes and events do not read.
 #[derive(Debug, Drop)]
 pub struct ReadSpan {
     pub span: ShownSpan,
@@ -45,8 +46,15 @@ pub(crate) fn span(alloc: Global, service: &str, span: &Value) -> Result<ReadSpa
     let start_time = moment(span, "startTimeUnixNano")?;
     let end_time = moment(span, "endTimeUnixNano")?;
     let status = status(alloc, span)?;
-    let ReadAttributes { lines, left_out } = attributes(alloc, span)?;
-    let events = events(alloc, span)?;
+    let ReadAttributes {
+        lines,
+        mut left_out,
+    } = attributes(alloc, span_id, span)?;
+    let ReadEvents {
+        events,
+        left_out: others,
+    } = events(alloc, span_id, span)?;
+    left_out.extend_from_slice(&others)?;
     let name = String::from_str(alloc, name)?;
     let service = String::from_str(alloc, service)?;
     let span = ShownSpan {

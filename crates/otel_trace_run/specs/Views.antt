@@ -7,8 +7,10 @@ use Rattle.opentelemetry.specs.Hex.{hex_text}
 use Rattle.otel_export.specs.Streams.{AppendsBeginning}
 use Rattle.otel_otlp_read.specs.Faults.{fault_text}
 use Rattle.otel_otlp_read.specs.Inputs.{read_input}
-use Rattle.otel_otlp_read.specs.declared.input.AttributePlace.{AttributePlace}
 use Rattle.otel_otlp_read.specs.declared.input.LineFault.{LineFault}
+use Rattle.otel_otlp_read.specs.declared.left_out.ItemList.{ItemList}
+use Rattle.otel_otlp_read.specs.declared.left_out.ItemList.TheVariants as lists
+use Rattle.otel_otlp_read.specs.declared.left_out.ItemPlace.{ItemPlace}
 use Rattle.otel_picture.specs.Choices.{IsChosen}
 use Rattle.otel_picture.specs.Drawn.{AreTracesOf, PlainTraces}
 use Rattle.otel_picture.specs.Summaries.{summary_text}
@@ -32,17 +34,24 @@ pub record IsViewOf (view : View) (spans : List PlainShownSpan) (text : List ℕ
   pub chosen : IsChosen view.choice traces drawn
   pub text_is : text ≡ written_of view.form drawn
 
--- which attribute was left out, if it is one
-abbrev pub place_text : Option AttributePlace → List ℕ
-place_text None = []
-place_text (Some place) =
-    codes "attribute " ++ (decimal place.number ++ (codes " of span " ++ (hex_text 16 place.span_id
-    ++ codes " is left out: ")))
+-- an item of a list, by its number
+abbrev pub item_text : ItemList → ℕ → List ℕ
+item_text (lists.ResourceAttributes resource) number =
+    codes "attribute " ++ (decimal number ++ (codes " of resource " ++ decimal resource))
+item_text (lists.SpanAttributes span_id) number =
+    codes "attribute " ++ (decimal number ++ (codes " of span " ++ hex_text 16 span_id))
+item_text (lists.SpanEvents span_id) number =
+    codes "event " ++ (decimal number ++ (codes " of span " ++ hex_text 16 span_id))
 
--- a line that does not read, or an attribute of one, and why
+-- which item was left out, if it is one
+abbrev pub place_text : Option ItemPlace → List ℕ
+place_text None = []
+place_text (Some item) = item_text item.list item.number ++ codes " is left out: "
+
+-- a line that does not read, or an item of one, and why
 abbrev pub fault_line : LineFault → List ℕ
 fault_line found =
-    codes "line " ++ (decimal found.line ++ (codes ": " ++ (place_text found.attribute ++ (fault_text found.fault
+    codes "line " ++ (decimal found.line ++ (codes ": " ++ (place_text found.item ++ (fault_text found.fault
     ++ codes "\n"))))
 
 abbrev pub fault_lines : List LineFault → List ℕ
@@ -62,7 +71,7 @@ abbrev pub Tells : Type 0 → (List ℕ → Type 0) → List ℕ → Type 0
 Tells Silent Says [] = Silent
 Tells Silent Says (b ∷ bs) = Says (b ∷ bs)
 
--- an input was read to its end; this is the view of its spans, these of its lines and attributes do not read, and so
+-- an input was read to its end; this is the view of its spans, these of its lines and their items do not read, and so
 -- many of its requests have no spans
 pub record ReadsView (view : View) (input after : Option (List ℕ)) (text : List ℕ) (faults : List LineFault)
     (spanless : ℕ) : Type 0 where
@@ -85,8 +94,8 @@ BeginsView view s = AppendsBeginning s.output s.output_after []
     ⊎ ((text : List ℕ) × (faults : List LineFault) × (spanless : ℕ)
     × ReadsView view s.input s.input_after text faults spanless × AppendsBeginning s.output s.output_after text)
 
--- a view by the exit status: 0 where each line read; 2 where some did not, or not all of their attributes, which are
--- named; 1 where it failed. How many requests had no spans is said last
+-- a view by the exit status: 0 where each line read; 2 where some did not, or not all of their attributes and events,
+-- which are named; 1 where it failed. How many requests had no spans is said last
 pub record Views (view : View) (s : Streams) (Silent : Type 0) (Says : List ℕ → Type 0) (status : ℕ)
     : Type 0 where
   pub small : status ≤ 2

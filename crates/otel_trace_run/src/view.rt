@@ -14,6 +14,7 @@ ghost use Rattle.otel_trace_run.specs.Views.{
   Views,
   fault_line,
   fault_lines,
+  item_text,
   notes_text,
   place_text,
 };
@@ -21,7 +22,7 @@ ghost use Rattle.otel_trace_run.specs.Views.{
 use crate::asked_view::{View, ViewForm};
 use crate::program::{DONE, FAILED, REFUSED};
 use otel_export::stream::write_whole;
-use otel_otlp_read::{AttributePlace, LineFault, read_text};
+use otel_otlp_read::{ItemList, ItemPlace, LineFault, read_text};
 use otel_picture::traces::Traces;
 use otel_shown::ShownSpan;
 use std::alloc::{AllocError, Global};
@@ -106,14 +107,29 @@ fn view_of(alloc: Global, view: View, spans: &[ShownSpan]) -> Result<Vec<u8>, Al
     }
 }
 
-/// Appends which attribute was left out, if it is one.
-fn push_place(said: &mut String, attribute: Option<AttributePlace>) -> Result<(), AllocError>
-    ensures { OnOk result (TextGrows said.old (place_text attribute) said.new) }
+/// Appends an item of a list, by its number.
+fn push_item(said: &mut String, list: ItemList, number: u64) -> Result<(), AllocError>
+    ensures { OnOk result (TextGrows said.old (item_text list number) said.new) }
 {
-    match attribute {
+    match list {
+        ItemList::ResourceAttributes(resource) => {
+            write!(said, "attribute {number} of resource {resource}")
+        }
+        ItemList::SpanAttributes(span_id) => {
+            write!(said, "attribute {number} of span {span_id}")
+        }
+        ItemList::SpanEvents(span_id) => write!(said, "event {number} of span {span_id}"),
+    }
+}
+
+/// Appends which item was left out, if it is one.
+fn push_place(said: &mut String, item: Option<ItemPlace>) -> Result<(), AllocError>
+    ensures { OnOk result (TextGrows said.old (place_text item) said.new) }
+{
+    match item {
         Some(place) => {
-            let (number, span_id) = (place.number, place.span_id);
-            write!(said, "attribute {number} of span {span_id} is left out: ")
+            push_item(said, place.list, place.number)?;
+            write!(said, " is left out: ")
         }
         None => Ok(()),
     }
@@ -126,7 +142,7 @@ fn push_fault(said: &mut String, found: LineFault) -> Result<(), AllocError>
     let line = found.line;
     let why = found.fault.text();
     write!(said, "line {line}: ")?;
-    push_place(said, found.attribute)?;
+    push_place(said, found.item)?;
     write!(said, "{why}\n")
 }
 

@@ -1,10 +1,13 @@
 -- The attributes so far, and those that are left, are all.
-use Rattle.std.proofs.Common.{◌≡◌, ◌+◌, drop, map}
+use Rattle.std.proofs.Common.{◌≡◌, ◌+◌, ℕ, List, drop, map}
+use Rattle.json.specs.Json.{Json}
 use Rattle.json.specs.Value.{value_view}
-use Rattle.otel_otlp_read.specs.SpanParts.{and_attributes, attributes_from}
+use Rattle.otel_otlp_read.specs.declared.left_out.ItemList.TheVariants.{SpanAttributes}
+use Rattle.otel_otlp_read.specs.Kept.{and_kept, kept_from}
+use Rattle.otel_otlp_read.specs.SpanParts.{attribute_line}
 use Rattle.otel_otlp_read.proofs.attributes.each_attribute.Given as goal
 
 abbrev pub invariant-loop-place : goal.invariant-loop-place
 invariant-loop-place l =
-    and_attributes l.read (attributes_from (l.place + 1) (map value_view (drop l.place l.items)))
-    ≡ attributes_from 1 (map value_view l.items)
+    let from = λ (n : ℕ) (js : List Json). kept_from attribute_line (SpanAttributes l.span_id) n js in
+    and_kept l.read (from (l.place + 1) (map value_view (drop l.place l.items))) ≡ from 1 (map value_view l.items)

@@ -1,13 +1,15 @@
 -- The events so far, and those that are left, are all.
-use Rattle.std.proofs.Common.{◌≡◌, drop, map}
+use Rattle.std.proofs.Common.{◌≡◌, ◌+◌, ℕ, List, drop, map}
 use Rattle.json.specs.Json.{Json}
 use Rattle.json.specs.Value.{value_view}
-use Rattle.otel_otlp_read.specs.Reading.{grown, joined, only}
+use Rattle.otel_otlp_read.specs.declared.left_out.ItemList.TheVariants.{SpanEvents}
+use Rattle.otel_otlp_read.specs.Kept.{and_kept, kept_from}
+use Rattle.otel_otlp_read.specs.Reading.{only}
 use Rattle.otel_otlp_read.specs.SpanParts.{event_in}
 use Rattle.otel_otlp_read.proofs.event.each_event.Given as goal
 
-abbrev pub invariant-loop-item : goal.invariant-loop-item
-invariant-loop-item l =
+abbrev pub invariant-loop-place : goal.invariant-loop-place
+invariant-loop-place l =
     let read = λ (item : Json). only (event_in item) in
-    grown l.events.items (joined read (map value_view (drop l.item-index l.items)))
-    ≡ joined read (map value_view l.items)
+    let from = λ (n : ℕ) (js : List Json). kept_from read (SpanEvents l.span_id) n js in
+    and_kept l.read (from (l.place + 1) (map value_view (drop l.place l.items))) ≡ from 1 (map value_view l.items)
