@@ -1,4 +1,9 @@
 pub mod Fitting
+pub mod IdBytes
+pub mod MembersAlike
+pub mod ReadAlike
+pub mod RequestsAlike
 pub mod SameJson
 pub mod SpanSteps
 pub mod Steps
+pub mod ValuesAlike
