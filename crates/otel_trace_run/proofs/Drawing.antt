@@ -177,7 +177,7 @@ module _ {C D E : Type 0} (calls : Calls (MemoryProcessor C D) (SamplerOf E) (Li
   -- what is drawn under the provider that is asked for
   pub draws_asked : (Paints : Painting) (asked : Asked) (provider : ProviderState (MemoryProcessor C D) (SamplerOf E) (List ℕ))
       (s : Streams) (end : RunEnd) → IsProviderOf true asked provider → DrawsUnder calls Paints provider s end
-      → EndsAs (DrawsAsked calls asked Paints s) (BeginsDrawing calls asked Paints s) s end
+      → EndsAs true (DrawsAsked calls asked Paints s) (BeginsDrawing calls asked Paints s) s end
   draws_asked Paints asked provider s ends.Done of h = ((provider, of, h.0), h.1)
   draws_asked Paints asked provider s (ends.BadLine line reason) of h = ((provider, of, h.0), h.1)
   draws_asked Paints asked provider s ends.Failed of h = inr (provider, of, h)

@@ -1,3 +1,4 @@
+pub mod BadLines
 pub mod ChoiceWords
 pub mod Cut
 pub mod Drawing

@@ -1,5 +1,5 @@
 -- What the program does with its streams, by its mode.
-use Rattle.std.proofs.Common.{◌≡◌, ℕ, ◌≤◌, Bool, List, Option, Some, inl, inr, subst, arith, false}
+use Rattle.std.proofs.Common.{◌≡◌, ℕ, ◌≤◌, Bool, List, Option, Some, inl, inr, subst, arith, false, true}
 use Rattle.otel_sampling.specs.declared.trace.sampler.SamplerOf.{SamplerOf}
 use Rattle.otel_trace_lines.specs.ReplyForm.{reply_lines, reply_lines_in}
 use Rattle.otel_trace_lines.specs.declared.dialect.Dialect.{Dialect}
@@ -7,7 +7,7 @@ use Rattle.otel_trace_lines.specs.declared.dialect.Dialect.TheVariants as dialec
 use Rattle.otel_pipeline.specs.Provider.{ProviderState}
 use Rattle.otel_trace_run.specs.Arguments.{Asks, PlainMode, otlp, picture, steps, trace}
 use Rattle.otel_trace_run.specs.PictureRuns.{Painting}
-use Rattle.otel_trace_run.specs.Program.{BeginsAsked, GivesBeginning, GivesWhole, IsProviderOf, MemoryProcessor, Runs, RunsTo, TracesAsked, says_reasons}
+use Rattle.otel_trace_run.specs.Program.{BeginsAsked, GivesBeginning, GivesWhole, IsProviderOf, MemoryProcessor, Runs, RunsTo, TracesAsked, reads_commands, says_reasons}
 use Rattle.otel_trace_run.specs.TraceRuns.{TracesBegun, TracesWhole}
 use Rattle.otel_trace_run.proofs.Drawing.{drawing_begun}
 use Rattle.otel_trace_run.proofs.Exporting.{exporting_begun}
@@ -23,19 +23,20 @@ use Rattle.otel_trace_run.specs.declared.run_end.RunEnd.{RunEnd}
 use Rattle.otel_trace_run.specs.declared.run_end.RunEnd.TheVariants as ends
 
 -- how a run ended, by its status
-ends_with : (Whole : Option ℕ → Type 0) (Begun Silent : Type 0) (says_reasons : Bool) (Says : List ℕ → Type 0) (s : Streams) (end : RunEnd) (status : ℕ) → ((bad_line : Option ℕ) → Whole bad_line → Begun)
-    → EndsAs Whole Begun s end → Reports end says_reasons Silent Says status → EndsWith Whole Begun Silent says_reasons Says s status
-ends_with Whole Begun Silent says_reasons Says s ends.Done status begins h r = record {
+ends_with : (are_commands : Bool) (Whole : Option ℕ → Type 0) (Begun Silent : Type 0) (says_reasons : Bool) (Says : List ℕ → Type 0) (s : Streams) (end : RunEnd) (status : ℕ) → ((bad_line : Option ℕ) → Whole bad_line → Begun)
+    → EndsAs are_commands Whole Begun s end → Reports end says_reasons Silent Says status
+    → EndsWith are_commands Whole Begun Silent says_reasons Says s status
+ends_with are_commands Whole Begun Silent says_reasons Says s ends.Done status begins h r = record {
   done = λ _. (h.0, h.1, r.1);
   refused = λ e. absurd (omega (arith, e, r.0));
   failed = λ e. absurd (omega (arith, e, r.0));
 }
-ends_with Whole Begun Silent says_reasons Says s (ends.BadLine line reason) status begins h (inl failed) = record {
+ends_with are_commands Whole Begun Silent says_reasons Says s (ends.BadLine line reason) status begins h (inl failed) = record {
   done = λ e. absurd (omega (arith, e, failed));
   refused = λ e. absurd (omega (arith, e, failed));
   failed = λ _. begins (Some line) h.0;
 }
-ends_with Whole Begun Silent says_reasons Says s (ends.BadLine line reason) status begins h (inr refused) = record {
+ends_with are_commands Whole Begun Silent says_reasons Says s (ends.BadLine line reason) status begins h (inr refused) = record {
   done = λ e. absurd (omega (arith, e, refused.0));
   refused = λ _. record {
     line = line;
@@ -48,7 +49,7 @@ ends_with Whole Begun Silent says_reasons Says s (ends.BadLine line reason) stat
   };
   failed = λ e. absurd (omega (arith, e, refused.0));
 }
-ends_with Whole Begun Silent says_reasons Says s ends.Failed status begins h failed = record {
+ends_with are_commands Whole Begun Silent says_reasons Says s ends.Failed status begins h failed = record {
   done = λ e. absurd (omega (arith, e, failed));
   refused = λ e. absurd (omega (arith, e, failed));
   failed = λ _. h;
@@ -65,18 +66,18 @@ module _ {C D E : Type 0} (calls : Calls (MemoryProcessor C D) (SamplerOf E) (Li
   -- what is traced under the provider that is asked for
   traces_plainly : (asked : Asked) (provider : ProviderState (MemoryProcessor C D) (SamplerOf E) (List ℕ)) (s : Streams) (end : RunEnd)
       → IsProviderOf false asked provider
-      → EndsAs (TracesWhole calls reply_lines provider s) (TracesBegun calls reply_lines provider s) s end
-      → EndsAs (TracesAsked calls asked s) (BeginsAsked calls asked s) s end
+      → EndsAs true (TracesWhole calls reply_lines provider s) (TracesBegun calls reply_lines provider s) s end
+      → EndsAs true (TracesAsked calls asked s) (BeginsAsked calls asked s) s end
   traces_plainly asked provider s ends.Done is traces = ((provider, is, traces.0), traces.1)
   traces_plainly asked provider s (ends.BadLine line reason) is traces = ((provider, is, traces.0), traces.1)
   traces_plainly asked provider s ends.Failed is traces = inr (provider, is, traces)
 
   pub traces_asked : (asked : Asked) (provider : ProviderState (MemoryProcessor C D) (SamplerOf E) (List ℕ)) (s : Streams) (end : RunEnd) (dialect : Dialect)
       → dialect ≡ dialects.Plain → IsProviderOf false asked provider
-      → EndsAs (TracesWhole calls (reply_lines_in dialect) provider s) (TracesBegun calls (reply_lines_in dialect) provider s) s end
-      → EndsAs (TracesAsked calls asked s) (BeginsAsked calls asked s) s end
+      → EndsAs true (TracesWhole calls (reply_lines_in dialect) provider s) (TracesBegun calls (reply_lines_in dialect) provider s) s end
+      → EndsAs true (TracesAsked calls asked s) (BeginsAsked calls asked s) s end
   traces_asked asked provider s end dialect plain is traces = traces_plainly asked provider s end is
-      (subst (λ (d : Dialect). EndsAs (TracesWhole calls (reply_lines_in d) provider s) (TracesBegun calls (reply_lines_in d) provider s) s end) plain traces)
+      (subst (λ (d : Dialect). EndsAs true (TracesWhole calls (reply_lines_in d) provider s) (TracesBegun calls (reply_lines_in d) provider s) s end) plain traces)
 
   -- what such a provider's session wrote whole is a beginning
   asked_begun : (asked : Asked) (s : Streams) (bad_line : Option ℕ) → TracesAsked calls asked s bad_line → BeginsAsked calls asked s
@@ -101,5 +102,5 @@ module _ {C D E : Type 0} (calls : Calls (MemoryProcessor C D) (SamplerOf E) (Li
       → Reports end says Silent Says status → Runs calls paints mode s Silent Says status
   runs_asked words mode found s end says Silent Says status asks is ran same reports =
       subst (λ (m : PlainMode). Runs calls paints m s Silent Says status) (mode_once words found mode is asks)
-      (ends_with (GivesWhole calls paints found s) (GivesBeginning calls paints found s) Silent (says_reasons found) Says s end status (mode_begun found s) ran
+      (ends_with (reads_commands found) (GivesWhole calls paints found s) (GivesBeginning calls paints found s) Silent (says_reasons found) Says s end status (mode_begun found s) ran
       (subst (λ (b : Bool). Reports end b Silent Says status) same reports))

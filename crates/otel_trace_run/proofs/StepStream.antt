@@ -150,9 +150,9 @@ answered_begins (Err e) m after text before now none h k =
     subst (BeginsAnswers m text) (sym (k.1 ∙ ap (λ bs. bs ++ k.0) none)) (beginning_begins m after text k.0 k.2)
 
 -- how it ends at a bad line
-pub ends_bad : (Whole : Option ℕ → Type 0) (Begun : Type 0) (s : Streams) (line : ℕ) (end : RunEnd) → (end ≡ ends.Failed) ⊎ (end ≡ ends.BadLine line None) → Whole (Some line) → Begun → EndsAs Whole Begun s end
-ends_bad Whole Begun s line end (inl failed) h k = subst (EndsAs Whole Begun s) (sym failed) k
-ends_bad Whole Begun s line end (inr bad) h k = subst (EndsAs Whole Begun s) (sym bad) (h, tt)
+pub ends_bad : (Whole : Option ℕ → Type 0) (Begun : Type 0) (s : Streams) (line : ℕ) (end : RunEnd) → (end ≡ ends.Failed) ⊎ (end ≡ ends.BadLine line None) → Whole (Some line) → Begun → EndsAs false Whole Begun s end
+ends_bad Whole Begun s line end (inl failed) h k = subst (EndsAs false Whole Begun s) (sym failed) k
+ends_bad Whole Begun s line end (inr bad) h k = subst (EndsAs false Whole Begun s) (sym bad) (h, refl)
 
 -- all answers are a beginning of them
 to_begun : (start after : Machine StoredBatches) (s : Streams) (bad_line : Option ℕ) → StepsTo start after s bad_line → StepsSome start s

@@ -1,5 +1,5 @@
 -- How a stream of commands ends: what was written whole, or a beginning of it.
-use Rattle.std.proofs.Common.{◌≡◌, ℕ, List, [], ◌++◌, Option, None, Some, Result, Ok, inl, inr, refl, sym, ap, subst, ◌∙◌, append-nil}
+use Rattle.std.proofs.Common.{◌≡◌, ℕ, List, [], ◌++◌, Option, None, Some, Result, Ok, true, inl, inr, refl, sym, ap, subst, ◌∙◌, append-nil}
 use Rattle.std.specs.Prelude.{◌⊎◌}
 use Rattle.std.proofs.KnownBytes.{Appends-trans}
 use Rattle.std.specs.Io.KnownBytes.{Appends}
@@ -90,13 +90,13 @@ module _ {P S G : Type 0} (calls : Calls P S G) (form : Form) (begun : SessionSt
   -- a session was fed and closed well, and all was written
   pub closed_as : (now : SessionState P S G) (input after output reached output_after : Option (List ℕ)) (end : RunEnd) (closing : List ℕ) → ¬ (end ≡ ends.Failed) → FedAs calls form begun now (streams input after output reached) end
       → EndsWell calls form now form.minds_drops closing → Appends reached output_after closing
-      → EndsAs (TracesAll calls form begun (streams input after output output_after)) (TracesSome calls form begun (streams input after output output_after)) (streams input after output output_after) end
+      → EndsAs true (TracesAll calls form begun (streams input after output output_after)) (TracesSome calls form begun (streams input after output output_after)) (streams input after output output_after) end
   closed_as now input after output reached output_after ends.Done closing goes h k written = (all_closed now input after output reached output_after None closing h.0 k written, h.1)
   closed_as now input after output reached output_after (ends.BadLine line reason) closing goes h k written = (all_closed now input after output reached output_after (Some line) closing h.0 k written, h.1)
   closed_as now input after output reached output_after ends.Failed closing goes h k written = absurd (goes refl)
 
   -- how feeding ends at a bad line
-  pub fed_bad : (now : SessionState P S G) (s : Streams) (line : ℕ) (reason : Option Reason) (end : RunEnd) → (end ≡ ends.Failed) ⊎ (end ≡ ends.BadLine line reason) → FeedsPieces calls form begun now s (Some line) → WhyBad s.input line reason → CarriesOutSome calls form begun s.input (Appends s.output s.output_after)
+  pub fed_bad : (now : SessionState P S G) (s : Streams) (line : ℕ) (reason : Option Reason) (end : RunEnd) → (end ≡ ends.Failed) ⊎ (end ≡ ends.BadLine line reason) → FeedsPieces calls form begun now s (Some line) → WhyBad true s.input line reason → CarriesOutSome calls form begun s.input (Appends s.output s.output_after)
       → FedAs calls form begun now s end
   fed_bad now s line reason end (inl failed) h why k = subst (FedAs calls form begun now s) (sym failed) k
   fed_bad now s line reason end (inr bad) h why k = subst (FedAs calls form begun now s) (sym bad) (h, why)

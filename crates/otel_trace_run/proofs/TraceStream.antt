@@ -1,6 +1,6 @@
 -- A stream of commands: what was carried out so far, and what a piece more does.
 use Rattle.std.proofs.Common.{◌≡◌, ℕ, ◌+◌, Bool, true, false, List, [], ◌∷◌, ◌++◌, length, map, Option, None, Some, Result, Ok, Err, inl, inr, refl, sym, ap, subst, ◌∙◌, arith, append_assoc, append-nil, length-append}
-use Rattle.std.specs.Prelude.{IfSome, option_map}
+use Rattle.std.specs.Prelude.{option_map}
 use Rattle.std.proofs.KnownBytes.{Appends-nil, Appends-trans, Consumes-nil}
 use Rattle.std.proofs.lemmas.List.{map-append}
 use Rattle.std.proofs.lemmas.List.Concat.{flat_map-append}
@@ -30,6 +30,7 @@ use Rattle.otel_trace_run.specs.Streams.{Streams, WhyBad, streams}
 use Rattle.otel_trace_run.specs.TraceRuns.{BeginsToSpell, CarriesOutSome, FeedsPieces, FeedsPiece}
 use Rattle.otel_trace_run.specs.Reasons.{IsReasonAt}
 use Rattle.otel_trace_run.specs.declared.reason.Reason.{Reason}
+use Rattle.otel_trace_run.proofs.BadLines.{HasLine, IsFound, bad_there, reason_there}
 use Rattle.otel_trace_run.proofs.Cut.{IsCut, cut_given, cut_last, cut_piece, ends_joined, holds_of_all, nothing_ends, read_on_from}
 
 -- what none of two lists of replies counts
@@ -298,16 +299,25 @@ module _ {P S G : Type 0} (calls : Calls P S G) (form : Form) (begun : SessionSt
     explains = h.explains;
   }
 
-  pub traced_why : (now : SessionState P S G) (input here after output reached : Option (List ℕ)) (rest : List ℕ) (number line : ℕ) (goes_on : Bool) (piece : PlainPieces) (reason : Option Reason)
-      → HasTraced calls form begun now (streams input here output reached) rest number → GivesLines here after rest goes_on piece → IfSome reason (IsReasonAt piece.lines line) → WhyBad input (number + line) reason
-  traced_why now input here after output reached rest number line goes_on piece None h g why = tt
-  traced_why now input here after output reached rest number line goes_on piece (Some reason) h g why =
+  -- a bad line of a text is there
+  fed_there : {T : Type 0} (now next : SessionState P S G) (text : List ℕ) (fed : Result T FeedError) (line : ℕ) (replies : List PlainReply) → fed ≡ Err (feeds.Line line) → Feeds calls form.dialect now text fed replies next → HasLine text line
+  fed_there {T} now next text fed line replies is h =
+      let up_to = subst (λ (r : Result T FeedError). Feeds calls form.dialect now text r replies next) is h in
+      bad_there form.dialect text (plain_commands up_to.commands) line up_to.spelled
+
+  -- so that there is a reason for it
+  pub traced_why : {T : Type 0} (now next : SessionState P S G) (input here after output reached output_after : Option (List ℕ)) (rest : List ℕ) (number line : ℕ) (goes_on : Bool) (piece : PlainPieces) (fed : Result T FeedError) (reason : Option Reason)
+      → HasTraced calls form begun now (streams input here output reached) rest number → GivesLines here after rest goes_on piece → fed ≡ Err (feeds.Line line) → FeedsPiece calls form now piece.lines fed (Appends reached output_after) next
+      → IsFound piece.lines line reason → WhyBad true input (number + line) reason
+  traced_why now next input here after output reached output_after rest number line goes_on piece fed reason h g is k why =
+      let found = reason_there piece.lines line reason why (fed_there now next piece.lines fed line k.replies is k.feeds) in
       let cut = cut_piece input here after h.given rest goes_on piece h.read h.ends g in
-      let text = h.given ++ piece.lines in (
+      let text = h.given ++ piece.lines in
+      subst (λ (r : Option Reason). WhyBad true input (number + line) r) (sym found.1) (
         text ++ cut.after,
         cut.all,
-        holds_of_all (λ bs. IsReasonAt bs (number + line) reason) input text cut (λ later ends k. reason_further text later (number + line) reason ends k)
-            (reason_joined h.given piece.lines number line reason h.ends h.counted why),
+        holds_of_all (λ bs. IsReasonAt bs (number + line) found.0) input text cut (λ later ends k. reason_further text later (number + line) found.0 ends k)
+            (reason_joined h.given piece.lines number line found.0 h.ends h.counted found.2),
       )
 
   -- a line of a piece is bad

@@ -99,4 +99,4 @@ module _ {P S G : Type 0} (calls : Calls P S G) (Paints : Painting)
 
   -- what a session did whose spans are drawn, by how it ended
   abbrev pub DrawsUnder : Streams → RunEnd → Type 0
-  DrawsUnder s end = EndsAs (DrawsAll s) (DrawsSome s) s end
+  DrawsUnder s end = EndsAs true (DrawsAll s) (DrawsSome s) s end

@@ -115,6 +115,13 @@ module _ {C D E : Type 0} (calls : Calls (MemoryProcessor C D) (SamplerOf E) (Li
       × (provider : ProviderState (MemoryProcessor C D) (SamplerOf E) (List ℕ))
       × IsProviderOf true export.asked provider × ExportsSome calls (requests_of export resource) provider s)
 
+-- whether the lines of a mode are commands: in `steps` they are none
+abbrev pub reads_commands : PlainMode → Bool
+reads_commands (trace asked) = true
+reads_commands (steps sizes) = false
+reads_commands (otlp export given) = true
+reads_commands (picture asked form) = true
+
 -- whether a mode says why a line is bad: in those whose texts are fixed it does not
 abbrev pub says_reasons : PlainMode → Bool
 says_reasons (trace asked) = false
@@ -140,9 +147,9 @@ module _ {C D E : Type 0} (calls : Calls (MemoryProcessor C D) (SamplerOf E) (Li
 
   -- what a run of a mode did, by how it ended
   abbrev pub RunsTo : PlainMode → Streams → RunEnd → Type 0
-  RunsTo mode s end = EndsAs (GivesWhole mode s) (GivesBeginning mode s) s end
+  RunsTo mode s end = EndsAs (reads_commands mode) (GivesWhole mode s) (GivesBeginning mode s) s end
 
   -- a run of a mode, by its status, and by what is said of the faults where it has none and where it has one
   abbrev pub Runs : PlainMode → Streams → Type 0 → (List ℕ → Type 0) → ℕ → Type 0
-  Runs mode s Silent Says status =
-      EndsWith (GivesWhole mode s) (GivesBeginning mode s) Silent (says_reasons mode) Says s status
+  Runs mode s Silent Says status = EndsWith (reads_commands mode) (GivesWhole mode s) (GivesBeginning mode s) Silent
+      (says_reasons mode) Says s status

@@ -146,8 +146,8 @@ pub record IsReasonAt (text : List ℕ) (n : ℕ) (reason : Reason) : Type 0 whe
 abbrev pub reasoned_text : ℕ → Reason → List ℕ
 reasoned_text line reason = codes "line " ++ (decimal line ++ (codes ": " ++ (reason_text reason ++ 10 ∷ [])))
 
--- this is said of a bad line, where reasons are said and where they are not
+-- this is said of a bad line, with its reason where reasons are said and it has one
 abbrev pub IsFault : (says_reasons : Bool) → ℕ → Option Reason → List ℕ → Type 0
 IsFault false line reason text = text ≡ bad_line_text line
-IsFault true line None text = ⊥
+IsFault true line None text = text ≡ bad_line_text line
 IsFault true line (Some reason) text = text ≡ reasoned_text line reason

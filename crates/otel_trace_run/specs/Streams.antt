@@ -1,5 +1,5 @@
 -- What a run does to its three streams. Of the bytes of a stream it speaks where the stream tells them.
-use Rattle.std.specs.Prelude.{◌≡◌, ◌⊎◌, ℕ, Bool, List, Option, Some, None, IfSome}
+use Rattle.std.specs.Prelude.{◌≡◌, ◌⊎◌, ℕ, Bool, true, false, List, Option, Some, None, IfSome}
 use Rattle.std.specs.Io.KnownBytes.{IsAtEnd}
 use Rattle.otel_trace_run.specs.Reasons.{IsFault, IsReasonAt}
 use Rattle.otel_trace_run.specs.declared.reason.Reason.{Reason}
@@ -22,17 +22,20 @@ streams input input_after output output_after =
 abbrev pub AreAll : Option (List ℕ) → List ℕ → Type 0
 AreAll input bytes = IfSome input (λ all. bytes ≡ all)
 
--- why line n of an input reads as no command, where that is known
-abbrev pub WhyBad : Option (List ℕ) → ℕ → Option Reason → Type 0
-WhyBad input n None = Unit {0}
-WhyBad input n (Some reason) = (bytes : List ℕ) × AreAll input bytes × IsReasonAt bytes n reason
+-- why line n of an input is bad: where lines are commands there is a reason, which holds of that line; where they are
+-- none there is no reason
+abbrev pub WhyBad : (are_commands : Bool) → Option (List ℕ) → ℕ → Option Reason → Type 0
+WhyBad true input n None = ⊥
+WhyBad true input n (Some reason) = (bytes : List ℕ) × AreAll input bytes × IsReasonAt bytes n reason
+WhyBad false input n reason = reason ≡ None
 
 -- how a run ended: at the input's end, after which the input has nothing; at its first bad line; or it failed, where
 -- only a beginning was done
-abbrev pub EndsAs : (Option ℕ → Type 0) → Type 0 → Streams → RunEnd → Type 0
-EndsAs Whole Begun s ends.Done = Whole None × IsAtEnd s.input_after
-EndsAs Whole Begun s (ends.BadLine line reason) = Whole (Some line) × WhyBad s.input line reason
-EndsAs Whole Begun s ends.Failed = Begun
+abbrev pub EndsAs : (are_commands : Bool) → (Option ℕ → Type 0) → Type 0 → Streams → RunEnd → Type 0
+EndsAs are_commands Whole Begun s ends.Done = Whole None × IsAtEnd s.input_after
+EndsAs are_commands Whole Begun s (ends.BadLine line reason) =
+    Whole (Some line) × WhyBad are_commands s.input line reason
+EndsAs are_commands Whole Begun s ends.Failed = Begun
 
 -- what is said of that, and with which status: 0 with no fault written, which is the fact Silent; 2 where Says the text
 -- that names the bad line, with its reason where reasons are said, or 1 where that could not be written; 1 where the run
@@ -44,19 +47,19 @@ Reports (ends.BadLine line reason) says_reasons Silent Says status =
 Reports ends.Failed says_reasons Silent Says status = status ≡ 1
 
 -- a bad line was named, and why it is bad where reasons are said
-pub record NamesLine (Whole : Option ℕ → Type 0) (says_reasons : Bool) (Says : List ℕ → Type 0) (s : Streams)
-    : Type 0 where
+pub record NamesLine (are_commands : Bool) (Whole : Option ℕ → Type 0) (says_reasons : Bool) (Says : List ℕ → Type 0)
+    (s : Streams) : Type 0 where
   pub line : ℕ
   pub reason : Option Reason
   pub text : List ℕ
   pub whole : Whole (Some line)
-  pub why : WhyBad s.input line reason
+  pub why : WhyBad are_commands s.input line reason
   pub fault : IsFault says_reasons line reason text
   pub says : Says text
 
 -- the same by the exit status
-pub record EndsWith (Whole : Option ℕ → Type 0) (Begun Silent : Type 0) (says_reasons : Bool) (Says : List ℕ → Type 0)
-    (s : Streams) (status : ℕ) : Type 0 where
+pub record EndsWith (are_commands : Bool) (Whole : Option ℕ → Type 0) (Begun Silent : Type 0) (says_reasons : Bool)
+    (Says : List ℕ → Type 0) (s : Streams) (status : ℕ) : Type 0 where
   pub done : status ≡ 0 → Whole None × IsAtEnd s.input_after × Silent
-  pub refused : status ≡ 2 → NamesLine Whole says_reasons Says s
+  pub refused : status ≡ 2 → NamesLine are_commands Whole says_reasons Says s
   pub failed : status ≡ 1 → Begun

@@ -1,7 +1,7 @@
 //! The modes `picture` and `svg`: at the end of the input all spans that a session exported over it are drawn, and no
 //! reply is written. So these modes hold the input and its spans, and their memory grows with both.
 
-ghost use Rattle.std.specs.Prelude.{◌≡◌, ◌++◌, [], IfOk, IfSome, OnOk, List, ℕ, map};
+ghost use Rattle.std.specs.Prelude.{◌≡◌, ◌++◌, [], IfOk, IfSome, OnOk, List, ℕ, map, true};
 ghost use Rattle.otel_export.specs.PlainSpanData.{PlainSpanData, spans_in};
 ghost use Rattle.otel_shown.specs.Shown.{shown_span};
 ghost use Rattle.otel_trace_lines.specs.Commands.{plain_commands};
@@ -150,7 +150,7 @@ fn draw_lines<P: KeepsBatches, S: ShouldSample, G: GivesIds, D: SpanPainter, R: 
         (calls_of P.SpanProcessor P.Timed.own P.CountsLeftSpans.own P.KeepsBatches.own S.ShouldSample G.GivesIds)
         (D.paints painter.now) session.old (R.remaining input.old) (R.remaining input.new)
         drawn.bad_line drawn.picture.items session.new
-        × IfSome drawn.bad_line (λ line. WhyBad (R.remaining input.old) line drawn.reason)) }
+        × IfSome drawn.bad_line (λ line. WhyBad true (R.remaining input.old) line drawn.reason)) }
 {
     let (script, reason) = read_script(alloc, input).ok()?;
     let spans = exported_by(alloc, session, script.commands)?;
@@ -166,7 +166,7 @@ fn draw_lines<P: KeepsBatches, S: ShouldSample, G: GivesIds, D: SpanPainter, R: 
 fn read_script<R: Read>(alloc: Global, input: &mut R) -> io::Result<(Script, Option<Reason>)>
     ensures { IfOk result (λ found. ReadsScript (R.remaining input.old) (R.remaining input.new)
         (plain_commands found.0.commands.items) found.0.bad_line
-        × IfSome found.0.bad_line (λ line. WhyBad (R.remaining input.old) line found.1)) }
+        × IfSome found.0.bad_line (λ line. WhyBad true (R.remaining input.old) line found.1)) }
 {
     let mut text = Vec::new(alloc);
     input.read_to_end(&mut text)?;

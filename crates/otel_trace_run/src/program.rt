@@ -250,13 +250,13 @@ fn name_bad_line<F: Write>(alloc: Global, line: u64, faults: &mut F) -> u8
     }
 }
 
-/// Names a bad line and why it is bad, and answers the status for it: a failure where the reason is not known.
+/// Names a bad line, and why it is bad where there is a reason, and answers the status for it.
 fn name_reason<F: Write>(alloc: Global, line: u64, reason: Option<Reason>, faults: &mut F) -> u8
     ensures { (result ≡ 1) ⊎ ((result ≡ 2) × ((text : List ℕ) × IsFault true line reason text
         × Appends (F.contents faults.old) (F.contents faults.new) text)) }
 {
     let Some(reason) = reason else {
-        return FAILED;
+        return name_bad_line(alloc, line, faults);
     };
     let said = reason_text_of(reason);
     match format!(in alloc; "line {line}: {said}\n") {

@@ -1,7 +1,8 @@
 //! Why a line reads as no command of the extended grammar, for whoever wrote it. The modes `trace` and `steps`, whose
 //! texts are fixed, do not say it.
 
-ghost use Rattle.std.specs.Prelude.{◌≡◌, ◌⊎◌, ℕ, IfSome};
+ghost use Rattle.std.specs.Prelude.{◌≡◌, ◌⊎◌, ◌<◌, ℕ, IfNone, IfSome, length};
+ghost use Rattle.std.specs.Str.Lines.{lines};
 ghost use Rattle.otel_trace_lines.specs.Lines.{IsDecimal64};
 ghost use Rattle.otel_trace_run.specs.Reasons.{Explains, ExplainsAfter, ExplainsFields, ExplainsMoment, ExplainsRest};
 ghost use Rattle.otel_trace_run.specs.Reasons.{ExplainsWord, IsLineAt, IsReasonAt, reason_text};
@@ -84,7 +85,8 @@ pub(crate) fn reason_of(line: &[u8]) -> Reason
 /// Why the line of this number reads as no command, from 1 and with empty lines counted; none where there is no such
 /// line.
 pub(crate) fn reason_at(text: &[u8], number: u64) -> Option<Reason>
-    ensures { IfSome result (IsReasonAt text.now number) }
+    ensures some { IfSome result (IsReasonAt text.now number) }
+    ensures none { IfNone result ((number ≡ 0) ⊎ (length (lines text.now) < number)) }
 {
     let line = line_at(text, number)?;
     Some(reason_of(line))
@@ -92,7 +94,8 @@ pub(crate) fn reason_at(text: &[u8], number: u64) -> Option<Reason>
 
 /// The line of this number, from 1; none where there is no such line.
 fn line_at(text: &[u8], number: u64) -> Option<&[u8]>
-    ensures { IfSome result (λ line. IsLineAt text.now number line.now) }
+    ensures some { IfSome result (λ line. IsLineAt text.now number line.now) }
+    ensures none { IfNone result ((number ≡ 0) ⊎ (length (lines text.now) < number)) }
 {
     let mut rest = text;
     let mut left = number;

@@ -61,5 +61,5 @@ returns g c =
         draws = d.3;
         written = subst (Appends _ _) c.deref.ensures.value c.in-Ok-write_whole.ensures.ok;
       },
-      subst (λ (b : Option ℕ). IfSome b (λ n. WhyBad (g.R.Read.remaining c.args.input.now) n c.in-Some.drawn.reason)) bad c.in-Some.ensures.1,
+      subst (λ (b : Option ℕ). IfSome b (λ n. WhyBad true (g.R.Read.remaining c.args.input.now) n c.in-Some.drawn.reason)) bad c.in-Some.ensures.1,
     )

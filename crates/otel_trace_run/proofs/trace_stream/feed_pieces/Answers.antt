@@ -1,6 +1,5 @@
 -- One piece more.
-use Rattle.std.specs.Prelude.{◌⊎◌, IfSome}
-use Rattle.otel_trace_run.specs.Reasons.{IsReasonAt}
+use Rattle.std.specs.Prelude.{◌⊎◌}
 use Rattle.otel_trace_run.specs.declared.run_end.RunEnd.TheVariants as ends
 use Rattle.std.proofs.Common.{◌≡◌, ◌+◌, ◌∙◌, ℕ, List, [], true, false, length, Result, Err, ap, refl, subst, sym, rules}
 use Rattle.std.specs.Str.Lines.{lines}
@@ -13,6 +12,7 @@ use Rattle.otel_trace_session.specs.declared.session.FeedError.TheVariants as fe
 use Rattle.otel_trace_session.specs.Pieces.{PlainPieces}
 use Rattle.otel_trace_run.specs.Streams.{streams}
 use Rattle.otel_trace_run.specs.TraceRuns.{FeedsPiece}
+use Rattle.otel_trace_run.proofs.BadLines.{IsFound}
 use Rattle.otel_trace_run.proofs.TraceEnds.{begun_whole, fed_bad}
 use Rattle.otel_trace_run.proofs.TraceStream.{HasTraced, begun_breaking, begun_failing, begun_reading, begun_turning, traced_all, traced_bad, traced_more, traced_none, traced_why}
 use Rattle.otel_trace_run.proofs.trace_stream.feed_pieces.Goals as goal
@@ -66,12 +66,14 @@ returns-in-Err-Line-clause-ok g c =
     let s = streams (g.R.Read.remaining c.args.input.now) (g.R.Read.remaining c.read_on.new.reader) (g.W.Write.contents c.args.output.now) (g.W.Write.contents c.feed_piece.new.output) in
     let reason = c.reason_at-reason.result in
     let ended = c.bad_line_after.result in
-    let found : IfSome reason (IsReasonAt c.read_on.new.self.lines c.in-Err-Line.line) =
-    subst (λ (text : List ℕ). IfSome reason (IsReasonAt text c.in-Err-Line.line)) c.lines-in-Err-Line.ensures (subst (λ (n : ℕ). IfSome reason (IsReasonAt c.lines-in-Err-Line.result.now n)) c.in-Err-Line.line-is c.reason_at-reason.ensures) in
+    let found : IsFound c.read_on.new.self.lines c.in-Err-Line.line reason =
+    subst (λ (text : List ℕ). IsFound text c.in-Err-Line.line reason) c.lines-in-Err-Line.ensures
+    (subst (λ (n : ℕ). IsFound c.lines-in-Err-Line.result.now n reason) c.in-Err-Line.line-is (c.reason_at-reason.ensures.some, c.reason_at-reason.ensures.none)) in
     fed_bad calls form begun next s (c.loop.before + c.in-Err-Line.line) reason ended (subst (λ (n : ℕ). (ended ≡ ends.Failed) ⊎ (ended ≡ ends.BadLine (c.loop.before + n) reason)) c.in-Err-Line.line-is c.bad_line_after.ensures)
     (traced_bad calls form begun
     (c.loop.session) next _ _ _ _ _ _ c.loop.pieces.rest c.loop.before c.in-Err-Line.line c.in_ok-goes_on.goes_on c.read_on.new.self fed c.loop.invariant.1 c.in_ok-goes_on.ensures.ok bad piece)
-    (traced_why calls form begun (c.loop.session) _ _ _ _ _ c.loop.pieces.rest c.loop.before c.in-Err-Line.line c.in_ok-goes_on.goes_on c.read_on.new.self reason c.loop.invariant.1 c.in_ok-goes_on.ensures.ok found)
+    (traced_why calls form begun
+    (c.loop.session) next _ _ _ _ _ _ c.loop.pieces.rest c.loop.before c.in-Err-Line.line c.in_ok-goes_on.goes_on c.read_on.new.self fed reason c.loop.invariant.1 c.in_ok-goes_on.ensures.ok bad piece found)
     (begun_failing calls form begun
     (c.loop.session) next _ _ _ _ _ _ c.loop.pieces.rest c.loop.before c.in_ok-goes_on.goes_on c.read_on.new.self fed c.loop.invariant.1 c.in_ok-goes_on.ensures.ok piece)
 
