@@ -38,37 +38,42 @@ fn load_cart<S: Scope, B: Backend>(scope: &mut S, backend: &mut B) -> Result<(),
     })
 }
 
-/// The scope of a service over a provider with processors of this kind.
-pub type Service<P, C> = Tracing<P, Sampler, IdSource, C, TraceContextPropagator>;
-
-/// A scope over an eager batch processor that has this exporter, by the default configuration. The seed is fixed here;
-/// `otel_host` gives a true one, and a clock.
-pub fn service<P: FromExporter, C: Now + Drop>(
+/// Answers requests with these headers, in a scope over an eager batch processor that has this exporter, by the default
+/// configuration. A request that fails does not keep it from the others. The seed is fixed here; `otel_host` gives a true
+/// one, and a clock.
+pub fn serve<P: FromExporter + Timed + CountsLeftSpans, C: Now + Drop, B: Backend>(
     alloc: Global,
     exporter: P::Exporter,
-    clock: C,
-) -> Result<Service<P, C>, AllocError> {
-    let name = String::from_str(alloc, "shop")?;
-    let library = InstrumentationScope::builder(alloc, name).build()?;
-    let builder = ProviderOf::<P, Sampler, IdSource>::builder(alloc, &ConfigStrings::default(), 0)?;
-    let provider = builder.with_eager_batch_exporter(exporter)?.build()?;
-    let propagator = TraceContextPropagator::new();
-    Ok(Tracing::new(alloc, provider, library, clock, propagator))
-}
-
-/// Answers requests with these headers, and closes the service. A request that fails does not keep it from the others.
-pub fn serve<P: Timed + CountsLeftSpans, C: Now + Drop, B: Backend>(
-    mut service: Service<P, C>,
     requests: &[MapCarrier],
+    clock: C,
     backend: &mut B,
 ) -> Result<CloseReport, OTelSdkError> {
+    let library = library(alloc).map_err(no_memory)?;
+    let builder = ProviderOf::<P, Sampler, IdSource>::builder(alloc, &ConfigStrings::default(), 0);
+    let builder = builder
+        .map_err(no_memory)?
+        .with_eager_batch_exporter(exporter);
+    let provider = builder.map_err(no_memory)?.build().map_err(no_memory)?;
+    let propagator = TraceContextPropagator::new();
+    let mut scope = Tracing::new(alloc, provider, library, clock, propagator);
+    // Nothing between here and `close` returns early.
     for headers in requests {
-        let _answered = answer(&mut service, headers, backend);
+        let _answered = answer(&mut scope, headers, backend);
         // What is due by now is exported; where that fails the service goes on.
-        let _exported = service.run_due();
+        let _exported = scope.run_due();
     }
-    let flushed = service.force_flush();
-    let closed = service.close();
+    let flushed = scope.force_flush();
+    let closed = scope.close();
     flushed?;
     Ok(closed.report)
+}
+
+/// Whose spans these are.
+fn library(alloc: Global) -> Result<InstrumentationScope, AllocError> {
+    InstrumentationScope::builder(alloc, String::from_str(alloc, "shop")?).build()
+}
+
+/// Out of memory, as the SDK calls it.
+fn no_memory<E: Drop>(_error: E) -> OTelSdkError {
+    OTelSdkError::OutOfMemory
 }

@@ -4,6 +4,7 @@
 ghost use Rattle.std.specs.Prelude.{ℕ, List, OnOk};
 ghost use Rattle.otel_sampling.specs.declared.trace.id_generator.IdSourceOf.{IdSourceOf};
 ghost use Rattle.otel_sampling.specs.declared.trace.sampler.SamplerOf.{SamplerOf};
+ghost use Rattle.otel_propagation.specs.declared.propagation.trace_context.TraceContextPropagator.{TraceContextPropagator};
 ghost use Rattle.otel_scope.specs.declared.tracing.Tracing.{Tracing};
 ghost use Rattle.otel_hello.specs.Closing.{ClosesWhole};
 
@@ -40,7 +41,7 @@ pub fn trace_hello<P: FromExporter + CountsLeftSpans, C: Now + Drop>(
     seed: u64,
     exporter: P::Exporter,
 ) -> Result<(), Losses>
-    ensures { OnOk result ((greeted : Tracing P (SamplerOf ℕ) (IdSourceOf (List ℕ)) C (Unit {0}))
+    ensures { OnOk result ((greeted : Tracing P (SamplerOf ℕ) (IdSourceOf (List ℕ)) C TraceContextPropagator)
         × ClosesWhole P.SpanProcessor P.CountsLeftSpans.own C.tells greeted) }
 {
     let Ok(mut scope) = scope_over::<P, C>(alloc, clock, strings, seed, exporter) else {
