@@ -5,3 +5,4 @@ pub mod FieldsLemmas
 pub mod HeadersLemmas
 pub mod LawLemmas
 pub mod ServingLemmas
+pub mod TellingLemmas

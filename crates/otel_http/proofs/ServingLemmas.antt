@@ -1,6 +1,7 @@
--- What a served request's span records.
-use Rattle.std.proofs.Common.{◌≡◌, ◌++◌, Bool, true, false, ◌||◌, List, [], ◌∷◌, Option, Some, None, MatchBool, IfSome, refl, ap, ◌∙◌}
-use Rattle.opentelemetry.specs.Plain.{PlainContext, PlainSpanContext}
+-- What the span of a request records that is served in a scope over a provider.
+use Rattle.std.proofs.Common.{◌≡◌, ◌⊎◌, ◌++◌, ℕ, Bool, true, false, ◌||◌, List, [], ◌∷◌, Option, Some, None, MatchBool, IfSome, nat_le, inl, inr, refl, sym, ap, subst, ◌∙◌}
+use Rattle.opentelemetry.specs.Carrier.{Injection, Texts}
+use Rattle.opentelemetry.specs.Plain.{PlainContext, PlainSpanContext, error}
 use Rattle.opentelemetry.specs.PlainContexts.{current_span_context}
 use Rattle.opentelemetry.specs.PlainSpanBuilder.{PlainSpanBuilder}
 use Rattle.opentelemetry.specs.declared.trace.span_kind.SpanKind.TheVariants.{Server}
@@ -9,16 +10,26 @@ use Rattle.otel_sampling.specs.declared.trace.sampler.SamplingDecision.TheVarian
 use Rattle.otel_sampling.specs.declared.trace.sampler.ShouldSample as sampling
 use Rattle.otel_sampling.specs.declared.trace.id_generator.GivesIds as drawing
 use Rattle.otel_pipeline.specs.Provider.{ProviderState, unstarted_context}
-use Rattle.otel_pipeline.specs.SpanHistory.{Edit, PlainSpan, SpanHistory, SpanStart, after, begun, edited, over, span_of}
+use Rattle.otel_pipeline.specs.SpanHistory.{Edit, IsEdited, PlainSpan, SpanHistory, SpanStart, after, begun, edited, over, set_status, span_of}
 use Rattle.otel_pipeline.specs.StartRequest.{StartRequest, start_request}
 use Rattle.otel_pipeline.specs.Starting.{DecidesStart, DrawsTraceId, Starts, StartsOpen}
 use Rattle.otel_pipeline.specs.declared.trace.span_processor.SpanProcessor.{Ghosts}
 use Rattle.otel_pipeline.proofs.SpanLaws.{after-recording}
+use Rattle.otel_scope.specs.Currents.{settled}
+use Rattle.otel_scope.specs.Tracings.{Enters, Leaves}
+use Rattle.otel_scope.specs.Tracings as scoping
+use Rattle.otel_scope.specs.declared.current.Current.{Current}
+use Rattle.otel_scope.specs.declared.holds_spans.HoldsSpans as holding
+use Rattle.otel_scope.specs.declared.tracing.Tracing.{Tracing}
+use Rattle.http.specs.declared.request.Parts.{Parts}
 use Rattle.http.specs.declared.request.Request.{Request}
+use Rattle.http.specs.Request.{head_of}
 use Rattle.http_server.specs.declared.response.Response.{Response}
 use Rattle.otel_http.specs.declared.traced.TheConstants.{FIRST_FAILURE}
-use Rattle.otel_http.specs.RequestSpans.{IsServerSpan, response_edits}
-use Rattle.otel_http.specs.Serving.{Serving, ServesTraced, TracedState, ended_span}
+use Rattle.otel_http.specs.RequestSpans.{IsServerBuilder, IsServerSpan, attribute_edits}
+use Rattle.otel_http.specs.Serving.{Serving, ServesIn, TracedState}
+use Rattle.otel_http.specs.Telling.{SpanStays}
+use Rattle.otel_http.proofs.TellingLemmas.{here_stays, stays_through}
 
 -- a start is that of a server's span in a context
 pub record IsServerStart (cx : PlainContext) (start : SpanStart) : Type 0 where
@@ -76,16 +87,122 @@ module _ {P S G : Type 0} (calls : Ghosts P) (sampler : sampling.Ghosts S) (ids 
           })
           opened.decided
 
--- what a served request's span records
-pub served_as : {V P S G C : Type 0} (calls : Ghosts P) (sampler : sampling.Ghosts S) (ids : drawing.Ghosts G)
-    (tells : C → _ → C → Type 0) (serves : Serving V P S G C) (old new : TracedState V P S G C) (request : Request (List _))
-    (cx : PlainContext) (response : Response)
-    → (served : ServesTraced calls sampler ids tells serves old request cx response new)
-    → IfSome (ended_span calls sampler ids tells serves served).recorded (IsServerSpan cx)
-served_as calls sampler ids tells serves old new request cx response served =
-    let answers = served.starts.2 in
-    let edited = served.inside.serves_once.edited in
-    let kind : served.builder.span_kind ≡ Some Server = ap (λ (b : PlainSpanBuilder). b.span_kind) served.is_builder.is in
-    let begins = begins_as calls sampler ids old.provider (start_request old.scope served.builder cx served.starts.0) answers.0 served.started.provider kind answers.2 in
-    rw (edited.1, answers.1)
-    (records_as cx answers.0 edited.0 (response_edits FIRST_FAILURE served.inside.whole response.status) begins)
+-- the edits by which a span is settled
+abbrev settle_edits : Bool → List Edit
+settle_edits true = set_status (error []) ∷ []
+settle_edits false = []
+
+settled_after : (failed : Bool) (span : PlainSpan) → settled failed span ≡ after (settle_edits failed) span
+settled_after true span = refl
+settled_after false span = refl
+
+-- the builder that was asked for is a server's
+asked_kind : (scheme : List ℕ) (keeps_query : Bool) (head : Parts) (asked : Option PlainSpanBuilder)
+    (builder : PlainSpanBuilder) → IfSome asked (IsServerBuilder scheme keeps_query head) → asked ≡ Some builder
+    → builder.span_kind ≡ Some Server
+asked_kind scheme keeps_query head None builder asks is = absurd (cc)
+asked_kind scheme keeps_query head (Some own) builder asks is =
+    let same : own ≡ builder = cc in
+    subst (λ (b : PlainSpanBuilder). b.span_kind ≡ Some Server) same
+    (ap (λ (b : PlainSpanBuilder). b.span_kind) asks.is)
+
+-- the span that is left, where one was there, and where none was
+pub some_left : (old new : Option PlainSpan) (span : PlainSpan) → SpanStays old new → old ≡ Some span
+    → (left : PlainSpan) × (new ≡ Some left) × IsEdited span left
+some_left None new span stays is = absurd (cc)
+some_left (Some own) new span stays is =
+    let same : own ≡ span = cc in
+    subst (λ (s : PlainSpan). (left : PlainSpan) × (new ≡ Some left) × IsEdited s left) same stays
+
+pub none_left : (old new : Option PlainSpan) → SpanStays old new → old ≡ None → new ≡ None
+none_left None new stays is = stays
+none_left (Some own) new stays is = absurd (cc)
+
+module _ {P S G C T : Type 0} (calls : Ghosts P) (sampler : sampling.Ghosts S) (ids : drawing.Ghosts G)
+    (tells : C → ℕ → C → Type 0) where
+  -- a span of this beginning started
+  pub record StartsHere (asked : Option PlainSpanBuilder) (old entered : Tracing P S G C T) : Type 0 where
+    pub begun : PlainSpanBuilder
+    pub is_asked : asked ≡ Some begun
+    pub starts : scoping.Starts calls sampler ids tells old begun entered
+
+  -- it did, or no span is current
+  pub enters_either : (asked : Option PlainSpanBuilder) (old entered : Tracing P S G C T)
+      → Enters calls sampler ids tells old asked entered
+      → StartsHere asked old entered ⊎ (entered.current.span ≡ None)
+  enters_either None old entered loses = inr loses.beside.0
+  enters_either (Some builder) old entered (inl starts) =
+      inl (record { begun = builder; is_asked = refl; starts = starts })
+  enters_either (Some builder) old entered (inr loses) = inr loses.beside.0
+
+  -- a span that started in a context records so, after edits and as it is settled
+  started_as : (cx : PlainContext) (builder : PlainSpanBuilder) (old entered : Tracing P S G C T) (span : PlainSpan)
+      (failed : Bool) → builder.span_kind ≡ Some Server → old.current.cx ≡ cx
+      → (starts : scoping.Starts calls sampler ids tells old builder entered) → IsEdited starts.span span
+      → IfSome (settled failed span).recorded (IsServerSpan cx)
+  started_as cx builder old entered span failed kind is starts edited =
+      let answers = starts.answers.2 in
+      let begins = begins_as calls sampler ids old.provider
+      (start_request old.tracer builder old.current.cx starts.answers.0) answers.0 entered.provider kind answers.2 in
+      let here : BeginsAs cx answers.0 = subst (λ (c : PlainContext). BeginsAs c answers.0) is begins in
+      let same : settled failed span ≡ after (settle_edits failed) (after edited.0 (span_of answers.0)) =
+      settled_after failed span ∙ ap (after (settle_edits failed)) (edited.1 ∙ ap (after edited.0) answers.1) in
+      rw same (records_as cx answers.0 edited.0 (settle_edits failed) here)
+
+module _ {P S G C T : Type 0} (calls : Ghosts P) (sampler : sampling.Ghosts S) (ids : drawing.Ghosts G)
+    (tells : C → ℕ → C → Type 0) (injects : T → Injection)
+    (extracts : T → PlainContext → Texts → PlainContext → Type 0) where
+  -- what a scope over a provider is
+  abbrev pub scoped : holding.Ghosts (Tracing P S G C T)
+  scoped = record {
+    current = λ scope. scope.current;
+    with_current = λ scope here. record scope { current = here };
+    tells = λ old moment new. tells old.clock moment new.clock × (new ≡ record old { clock = new.clock });
+    enters = Enters calls sampler ids tells;
+    leaves = Leaves calls tells;
+    injects = λ scope. injects scope.propagator;
+    extracts = λ scope. extracts scope.propagator;
+  }
+
+  module _ {V : Type 0} (serves : Serving V (Tracing P S G C T)) (cx : PlainContext) (old new : TracedState V (Tracing P S G C T))
+      (request : Request (List ℕ)) (response : Response) (served : ServesIn scoped serves cx old request response new)
+    where
+      -- the span that was current when the service was asked still is at the end, but for edits
+      pub stays_said : SpanStays served.inside.entered.current.span served.inside.said.current.span
+      stays_said = stays_through served.inside.entered.current.span served.inside.left.current.span
+          served.inside.said.current.span served.inside.serves_once.stays
+          (here_stays scoped (attribute_edits FIRST_FAILURE response.status) served.inside.left served.inside.told
+          served.inside.said served.inside.tells)
+
+      -- what a span records that started for the request
+      pub started_for : (started : StartsHere calls sampler ids tells served.asked served.placed served.inside.entered)
+          (span : PlainSpan) (failed : Bool) → IsEdited started.starts.span span
+          → IfSome (settled failed span).recorded (IsServerSpan cx)
+      started_for started span failed edited =
+          started_as calls sampler ids tells cx started.begun served.placed served.inside.entered span failed
+          (asked_kind old.scheme old.keeps_query (head_of request) served.asked started.begun served.asks
+          started.is_asked)
+          (ap (λ (here : Current). here.cx) served.places.is) started.starts edited
+
+      -- the span that was current at the end is the one that started for the request
+      pub served_as : (span : PlainSpan) → served.inside.said.current.span ≡ Some span
+          → IfSome (settled (nat_le FIRST_FAILURE response.status) span).recorded (IsServerSpan cx)
+      served_as span is =
+          by (enters_either calls sampler ids tells served.asked served.placed served.inside.entered
+          served.inside.starts)
+        where
+          by : StartsHere calls sampler ids tells served.asked served.placed served.inside.entered
+              ⊎ (served.inside.entered.current.span ≡ None)
+              → IfSome (settled (nat_le FIRST_FAILURE response.status) span).recorded (IsServerSpan cx)
+          by (inl started) =
+              let first : served.inside.entered.current.span ≡ Some started.starts.span =
+              ap (λ (scope : Tracing P S G C T). scope.current.span) started.starts.rest in
+              let left = some_left served.inside.entered.current.span served.inside.said.current.span
+              started.starts.span stays_said first in
+              let same : left.0 ≡ span = cc in
+              started_for started span (nat_le FIRST_FAILURE response.status)
+              (subst (λ (s : PlainSpan). IsEdited started.starts.span s) same left.2)
+          by (inr none) =
+              let gone : served.inside.said.current.span ≡ None =
+              none_left served.inside.entered.current.span served.inside.said.current.span stays_said none in
+              absurd (cc)

@@ -1,3 +1,4 @@
+pub mod Asking
 pub mod Connections
 pub mod ContextFields
 pub mod ContextTexts
@@ -11,3 +12,4 @@ pub mod RequestSpans
 pub mod Servers
 pub mod Serving
 pub mod SetHeader
+pub mod Telling

@@ -1,6 +1,5 @@
--- The span of a request: what it begins with, what it is told of the response, how it ends, and what is recorded of it.
-use Rattle.std.specs.Prelude.{◌≡◌, ℕ, ◌+◌, ◌-◌, ◌^◌, Bool, ◌&&◌, List, [], ◌∷◌, ◌++◌, Some, Result, IsOk, is_ok, map, min, nat_le, if◌then◌else◌}
-use Rattle.std.specs.declared.alloc.AllocError.{AllocError}
+-- The span of a request: what it begins with, what it is told of the response, and what is recorded of it.
+use Rattle.std.specs.Prelude.{◌≡◌, ℕ, ◌+◌, ◌-◌, ◌^◌, Bool, List, [], ◌∷◌, ◌++◌, Some, map, min, nat_le, if◌then◌else◌}
 use Rattle.http.specs.declared.request.Parts.{Parts}
 use Rattle.opentelemetry.specs.Plain.{PlainContext, PlainKeyValue, PlainSpanContext, error}
 use Rattle.opentelemetry.specs.PlainContexts.{current_span_context}
@@ -8,11 +7,7 @@ use Rattle.opentelemetry.specs.PlainSpanBuilder.{PlainSpanBuilder, named_builder
 use Rattle.opentelemetry.specs.declared.trace.span_kind.SpanKind.{SpanKind}
 use Rattle.opentelemetry.specs.declared.trace.span_kind.SpanKind.TheVariants.{Client, Server}
 use Rattle.otel_export.specs.PlainSpanData.{PlainSpanData}
-use Rattle.otel_pipeline.specs.Ending.{EndIsInfallible}
-use Rattle.otel_pipeline.specs.InSpan.{EndsOrDrops}
-use Rattle.otel_pipeline.specs.Provider.{ProviderState}
-use Rattle.otel_pipeline.specs.SpanHistory.{Edit, PlainSpan, set_attribute, set_status}
-use Rattle.otel_pipeline.specs.declared.trace.span_processor.SpanProcessor.{Ghosts}
+use Rattle.otel_pipeline.specs.SpanHistory.{Edit, set_attribute, set_status}
 use Rattle.otel_http.specs.Conventions.{HasClientAttributes, HasServerAttributes, method_name, response_attributes}
 
 -- what the builder of a request's span has: the method as its name, a kind, and attributes
@@ -32,28 +27,17 @@ IsServerBuilder scheme keeps_query head = IsBuilder Server (HasServerAttributes 
 abbrev pub IsClientBuilder : Parts → PlainSpanBuilder → Type 0
 IsClientBuilder head = IsBuilder Client (HasClientAttributes head) head
 
+-- the attributes that a span is told of its response
+abbrev pub attribute_edits : ℕ → ℕ → List Edit
+attribute_edits first_error status = map set_attribute (response_attributes first_error status)
+
 -- the status of a span, by that of the response
 abbrev pub status_edits : ℕ → ℕ → List Edit
 status_edits first_error status = if nat_le first_error status then set_status (error []) ∷ [] else []
 
--- what a span is told of its response; where there is no memory its status alone
-abbrev pub response_edits : ℕ → Bool → ℕ → List Edit
-response_edits first_error whole status =
-    status_edits first_error status
-    ++ (if whole then map set_attribute (response_attributes first_error status) else [])
-
 -- one more, up to the greatest u64
 abbrev pub one_more : ℕ → ℕ
 one_more count = min (count + 1) (2 ^ 64 - 1)
-
-module _ {P : Type 0} (calls : Ghosts P) where
-  -- a span ended at a moment; where it was not told all, or there was no memory to end it, that counts
-  pub record EndsCounted {S G : Type 0} (whole : Bool) (span : PlainSpan) (moment : ℕ) (old : ProviderState P S G)
-      (unfinished : ℕ) (new : ProviderState P S G) (unfinished' : ℕ) : Type 0 where
-    pub ended : Result ℕ AllocError
-    pub ends : EndsOrDrops calls old span moment ended new
-    pub free : EndIsInfallible span old → IsOk ended
-    pub counts : unfinished' ≡ (if whole && is_ok ended then unfinished else one_more unfinished)
 
 -- what is recorded of a request that is served in a context: a server's span, whose parent is the context's span and
 -- whose trace is that one's; in a root's context, of no parent and a trace of its own

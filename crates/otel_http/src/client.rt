@@ -1,25 +1,29 @@
 //! A request to another service: its span, and the headers by which the other service takes part in the trace.
 
-ghost use Rattle.std.specs.Prelude.{◌≡◌, IfOk, OnErr, OnOk, is_ok};
+ghost use Rattle.std.specs.Prelude.{◌≡◌, IfOk, OnErr, OnOk};
 ghost use Rattle.http.specs.Request.{head_of, with_head};
-ghost use Rattle.otel_pipeline.specs.SpanHistory.{after};
+ghost use Rattle.otel_http.specs.Asking.{Asks, Sends, is_failed};
 ghost use Rattle.otel_http.specs.ContextFields.{SetsFields, SetsUpTo, context_fields, other_fields};
 ghost use Rattle.otel_http.specs.Contexts.{InjectsContext};
+ghost use Rattle.otel_http.specs.Headers.{header_texts};
 ghost use Rattle.otel_http.specs.Injection.{carrier_answer};
-ghost use Rattle.otel_http.specs.RequestSpans.{IsClientBuilder, response_edits};
+ghost use Rattle.otel_http.specs.RequestSpans.{IsClientBuilder};
+ghost use Rattle.otel_http.specs.Telling.{SpanStays};
 
 use crate::SetHeaderError;
 use crate::conventions::{client_attributes, method_name};
-use crate::propagation::inject_context;
-use crate::traced::conclude;
-use http::{Request, StatusCode};
+use crate::propagation::{inject_context, inject_here};
+use crate::telling::tell_response;
+use bytes::Bytes;
+use http::Request;
+use http_server::{Response, Service};
 use opentelemetry::Context;
 use opentelemetry::trace::{SpanBuilder, SpanKind};
-use otel_pipeline::trace::Span;
+use otel_scope::HoldsSpans;
 use std::alloc::{AllocError, Global};
 
 /// The status from which on a request failed for its client.
-const FIRST_ERROR: u16 = 400;
+pub(crate) const FIRST_ERROR: u16 = 400;
 
 /// Writes a context into the headers of a request, so that the service that gets it takes part in the trace. On an error
 /// a beginning of its headers is set; all else of the request stays as it is, whether it succeeds or not.
@@ -42,7 +46,7 @@ pub fn inject_request<B>(
 }
 
 /// What the span of a request to another service begins with: the kind client, the method as its name, and what the
-/// conventions say of a request. `Tracer::in_span` takes it.
+/// conventions say of a request. `Scope::in_span` takes it.
 pub fn client_span<B>(alloc: Global, request: &Request<B>) -> Result<SpanBuilder, AllocError>
     ensures { IfOk result (IsClientBuilder (head_of request.now)) }
 {
@@ -55,10 +59,47 @@ pub fn client_span<B>(alloc: Global, request: &Request<B>) -> Result<SpanBuilder
     )
 }
 
-/// Tells the span of a request to another service what came back. Statuses from 400 on are errors for a client. Where
-/// there is no memory the span is told its status alone.
-pub fn record_response(alloc: Global, span: &mut Span, status: StatusCode) -> Result<(), AllocError>
-    ensures { span.new ≡ after (response_edits FIRST_ERROR (is_ok result) status) span.old }
+/// Sends a request to another service inside a span of kind client: it goes with the context of that span, and the span
+/// is told what came back. It ends whatever comes, and what was current is so again. Where there is no memory for the span
+/// it counts as lost, and the request is sent all the same.
+pub fn ask_inside<S: HoldsSpans, B: Service>(
+    scope: &mut S,
+    service: &mut B,
+    request: Request<Bytes>,
+) -> Result<Response, AllocError>
+    ensures asks { Asks S.HoldsSpans B.answers service.old request scope.old result scope.new service.new }
+    ensures restores { S.current scope.new ≡ S.current scope.old }
 {
-    conclude(alloc, span, status, FIRST_ERROR)
+    let builder = client_span(scope.alloc(), &request).ok();
+    let outer = scope.enter(builder);
+    let answered = send(scope, service, request);
+    scope.leave(outer, is_failed(&answered));
+    answered
+}
+
+/// Whether a request failed for its client.
+fn is_failed(answered: &Result<Response, AllocError>) -> bool
+    ensures { result ≡ is_failed answered.now }
+{
+    match answered {
+        Ok(reply) => FIRST_ERROR <= reply.status.as_u16(),
+        Err(_) => true,
+    }
+}
+
+/// Sends a request with what of the current context travels, and tells the current span what came back.
+fn send<S: HoldsSpans, B: Service>(
+    scope: &mut S,
+    service: &mut B,
+    mut request: Request<Bytes>,
+) -> Result<Response, AllocError>
+    ensures sends { IfOk result (λ reply. Sends S.HoldsSpans B.answers service.old request scope.old reply scope.new
+        service.new) }
+    ensures stays { SpanStays (S.current scope.old).span (S.current scope.new).span }
+{
+    inject_here(scope, request.headers_mut())?;
+    let mut reply = Response::new(scope.alloc());
+    service.call(&request, &mut reply)?;
+    tell_response(scope, reply.status, FIRST_ERROR)?;
+    Ok(reply)
 }

@@ -4,17 +4,15 @@ ghost use Rattle.std.specs.Prelude.{◌≡◌, ◌++◌, ◌∷◌, ℕ, IfOk, L
 ghost use Rattle.std.specs.Prelude.{if◌then◌else◌, option_copied, option_map, string_bytes, unwrap_or};
 ghost use Rattle.http_uri.specs.Uri.{uri_query, uri_scheme};
 ghost use Rattle.http.specs.Request.{head_of};
-ghost use Rattle.otel_pipeline.specs.SpanHistory.{IsEdited, after};
 ghost use Rattle.otel_http.specs.Conventions.{HasClientAttributes, HasServerAttributes, attribute_if, is_known_method};
 ghost use Rattle.otel_http.specs.Conventions.{method_attributes, method_name, method_value, original_method};
-ghost use Rattle.otel_http.specs.Conventions.{response_attributes, route_edits, space, target_attributes};
+ghost use Rattle.otel_http.specs.Conventions.{target_attributes};
 ghost use Rattle.otel_http.specs.Servers.{IsFullUrl, text_attribute};
 
 use crate::server::{full_url, push_server, scheme_port};
-use http::{Method, Request, StatusCode};
+use http::{Method, Request};
 use http_uri::Uri;
 use opentelemetry::{Key, KeyValue, Value};
-use otel_pipeline::trace::Span;
 use std::alloc::{AllocError, Global};
 
 const METHOD: &str = "http.request.method";
@@ -29,11 +27,11 @@ const QUERY: &str = "url.query";
 
 const FULL_URL: &str = "url.full";
 
-const STATUS: &str = "http.response.status_code";
+pub(crate) const STATUS: &str = "http.response.status_code";
 
-const ERROR_TYPE: &str = "error.type";
+pub(crate) const ERROR_TYPE: &str = "error.type";
 
-const ROUTE: &str = "http.route";
+pub(crate) const ROUTE: &str = "http.route";
 
 /// Whether the conventions know a method.
 fn is_known_method(method: &Method) -> bool
@@ -205,52 +203,4 @@ fn text_in(text: &Option<String>) -> Option<&str>
         Some(text) => Some(text.as_str()),
         None => None,
     }
-}
-
-/// Tells the span of a request its route, as `/users/{id}`: a text of the program's own, of which there are few. The span
-/// is named after it. On an error nothing changes.
-pub fn record_route(
-    alloc: Global,
-    span: &mut Span,
-    method: &Method,
-    route: &str,
-) -> Result<(), AllocError>
-    ensures ok { OnOk result (span.new ≡ after (route_edits method.now route.now) span.old) }
-    ensures err { OnErr result (span.new ≡ span.old) }
-    ensures edits { IsEdited span.old span.new }
-{
-    let name = route_name(alloc, method, route)?;
-    let attribute = text_attribute(alloc, ROUTE, route)?;
-    span.set_attribute(attribute)?;
-    let Ok(()) = span.update_name(name) else {
-        unreachable!();
-    };
-    Ok(())
-}
-
-/// The name of a span with a route.
-fn route_name(alloc: Global, method: &Method, route: &str) -> Result<String, AllocError>
-    ensures { IfOk result (λ name. string_bytes name ≡ method_name method.now ++ space ∷ route.now) }
-{
-    let mut name = String::from_str(alloc, method_name(method))?;
-    name.push_str(" ")?;
-    name.push_str(route)?;
-    Ok(name)
-}
-
-/// What a span has of its response. Statuses from the first error on are named as errors.
-pub(crate) fn response_attributes(
-    alloc: Global,
-    status: StatusCode,
-    first_error: u16,
-) -> Result<Vec<KeyValue>, AllocError>
-    ensures { IfOk result (λ attributes. attributes.items ≡ response_attributes first_error status) }
-{
-    let code = status.as_u16();
-    let mut attributes = Vec::with_capacity(alloc, 2)?;
-    attributes.push(KeyValue::new(Key::from_static_str(STATUS), Value::I64(code as i64)))?;
-    if first_error <= code {
-        attributes.push(text_attribute(alloc, ERROR_TYPE, status.as_str())?)?;
-    }
-    Ok(attributes)
 }

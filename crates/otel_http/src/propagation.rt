@@ -14,6 +14,7 @@ use http_header::HeaderMap;
 use opentelemetry::Context;
 use opentelemetry::propagation::{Extractor, TextMapPropagator};
 use otel_propagation::propagation::{StrictBaggagePropagator, TraceContextPropagator};
+use otel_scope::HoldsSpans;
 use std::alloc::{AllocError, Global};
 use std::mem;
 
@@ -36,6 +37,33 @@ pub fn inject_headers<P: TextMapPropagator>(
         Ok(()) => Ok(()),
         Err(_) => Err(refusal.unwrap_or(SetHeaderError::Memory)),
     }
+}
+
+/// Writes what of the current context travels into headers, by the propagator of the scope. On an error the texts that
+/// were set before it stay.
+pub(crate) fn inject_here<S: HoldsSpans>(
+    scope: &S,
+    headers: &mut HeaderMap,
+) -> Result<(), AllocError>
+    ensures { S.injects scope.now (S.current scope.now).cx (header_texts headers.old) result
+        (header_texts headers.new) }
+{
+    let taken = mem::replace(headers, HeaderMap::new(scope.alloc()));
+    let mut injector = HeaderInjector::new(scope.alloc(), taken);
+    let injected = scope.inject_current(&mut injector);
+    *headers = injector.into_headers();
+    injected
+}
+
+/// The current context with what headers say in place of what it had, by the propagator of the scope.
+pub(crate) fn extract_here<S: HoldsSpans>(
+    scope: &S,
+    headers: &HeaderMap,
+) -> Result<Context, AllocError>
+    ensures { IfOk result (λ found. S.extracts scope.now (S.current scope.now).cx (header_texts headers.now) found) }
+{
+    let extractor = HeaderExtractor::new(scope.alloc(), headers)?;
+    scope.extract_here(&extractor)
 }
 
 /// The context with what headers say in place of what it had.

@@ -1,23 +1,21 @@
 //! A service around a traced one: it serves each request inside a span of its own.
 
-ghost use Rattle.std.specs.Prelude.{◌≡◌, false, true, IfOk, IsNone, IsOk, Ok, OnErr, OnOk, codes, is_ok};
+ghost use Rattle.std.specs.Prelude.{◌≡◌, false, true, IfOk, IfSome, IsOk, OnErr, OnOk, codes};
 ghost use Rattle.http.specs.Request.{head_of};
 ghost use Rattle.http_server.specs.Response.{IsBlank};
-ghost use Rattle.otel_pipeline.specs.SpanHistory.{after};
-ghost use Rattle.otel_http.specs.RequestSpans.{IsServerBuilder, response_edits};
-ghost use Rattle.otel_http.specs.Serving.{ServesIn, ServesInside, ServesOnce, ServesWithout, TracesRequest, lent};
+ghost use Rattle.otel_http.specs.RequestSpans.{IsServerBuilder};
+ghost use Rattle.otel_http.specs.Serving.{ServesIn, ServesInside, ServesOnce, TracesRequest, counted_unless};
 
 use crate::TracedService;
-use crate::begun::{Begun, begin_span, end_counted};
-use crate::conventions::{method_name, response_attributes, server_attributes};
-use crate::propagation::extract_context;
+use crate::conventions::{method_name, server_attributes};
+use crate::propagation::extract_here;
+use crate::telling::tell_response;
 use bytes::Bytes;
 use http::{Request, StatusCode};
 use http_server::{Response, Service};
-use opentelemetry::trace::{SpanBuilder, SpanKind, Status};
-use opentelemetry::{Context, Moment};
-use otel_pipeline::trace::{Now, ProviderOf, SdkTracer, Span, SpanProcessor};
-use otel_sampling::trace::{GivesIds, ShouldSample};
+use opentelemetry::Context;
+use opentelemetry::trace::{SpanBuilder, SpanKind};
+use otel_scope::HoldsSpans;
 use std::alloc::{AllocError, Global};
 use std::marker::Model;
 
@@ -25,28 +23,23 @@ use std::marker::Model;
 const FIRST_FAILURE: u16 = 500;
 
 /// Serves each request inside a span of kind server.
-pub struct Traced<V, P, S, G, C> {
-    alloc: Global,
+pub struct Traced<V, S> {
     service: V,
-    provider: ProviderOf<P, S, G>,
-    tracer: SdkTracer,
-    clock: C,
+    scope: S,
     scheme: &'static str,
     keeps_query: bool,
     untraced: u64,
     unfinished: u64,
 }
 
-impl<V, P, S, G, C> Model for Traced<V, P, S, G, C> {
+impl<V, S> Model for Traced<V, S> {
     ghost use Rattle.otel_http.specs.Serving.{TracedState};
 
-    ghost Value = { TracedState V P S G C };
+    ghost Value = { TracedState V S };
 
     ghost view = { λ traced. record {
       service = traced.service;
-      provider = traced.provider;
-      scope = traced.tracer;
-      clock = traced.clock;
+      scope = traced.scope;
       scheme = traced.scheme.now;
       keeps_query = traced.keeps_query;
       untraced = traced.untraced;
@@ -54,25 +47,15 @@ impl<V, P, S, G, C> Model for Traced<V, P, S, G, C> {
     } };
 }
 
-impl<V, P, S, G, C> Traced<V, P, S, G, C> {
+impl<V, S> Traced<V, S> {
     ghost use Rattle.std.specs.Borrow.{Lends, sem};
     ghost use Rattle.otel_http.specs.contracts.traced.Traced.{the_row};
-    ghost use Rattle.otel_pipeline.specs.contracts.trace.provider.ProviderOf.{the_row as provider_row};
 
-    /// A service whose requests start spans at this provider, under the scope of this tracer, at moments that the clock
-    /// tells. They are requests of `http`.
-    pub fn new(
-        alloc: Global,
-        service: V,
-        provider: ProviderOf<P, S, G>,
-        tracer: SdkTracer,
-        clock: C,
-    ) -> Traced<V, P, S, G, C>
+    /// A service whose requests start spans in this scope. They are requests of `http`.
+    pub fn new(service: V, scope: S) -> Traced<V, S>
         ensures { result ≡ record {
           service = service;
-          provider = provider;
-          scope = tracer;
-          clock = clock;
+          scope = scope;
           scheme = codes "http";
           keeps_query = false;
           untraced = 0;
@@ -80,11 +63,8 @@ impl<V, P, S, G, C> Traced<V, P, S, G, C> {
         } }
     {
         Traced {
-            alloc,
             service,
-            provider,
-            tracer,
-            clock,
+            scope,
             scheme: "http",
             keeps_query: false,
             untraced: 0,
@@ -93,7 +73,7 @@ impl<V, P, S, G, C> Traced<V, P, S, G, C> {
     }
 
     /// The same for requests of another scheme, as `https`. One whose target names its scheme is of that one.
-    pub fn with_url_scheme(mut self, scheme: &'static str) -> Traced<V, P, S, G, C>
+    pub fn with_url_scheme(mut self, scheme: &'static str) -> Traced<V, S>
         ensures { result ≡ record self { scheme = scheme.now } }
     {
         self.scheme = scheme;
@@ -101,38 +81,42 @@ impl<V, P, S, G, C> Traced<V, P, S, G, C> {
     }
 
     /// The same with queries as attributes, which may have secrets in them.
-    pub fn with_url_query(mut self) -> Traced<V, P, S, G, C>
+    pub fn with_url_query(mut self) -> Traced<V, S>
         ensures { result ≡ record self { keeps_query = true } }
     {
         self.keeps_query = true;
         self
     }
 
-    /// The service, the provider, which is to be closed, and the clock.
-    pub fn into_parts(self) -> (V, ProviderOf<P, S, G>, C)
-        ensures { result ≡ (self.service, self.provider, self.clock) }
+    /// The service, and the scope, which is to be closed.
+    pub fn into_parts(self) -> (V, S)
+        ensures { result ≡ (self.service, self.scope) }
     {
         let Traced {
-            alloc: _,
             service,
-            provider,
-            tracer: _,
-            clock,
+            scope,
             scheme: _,
             keeps_query: _,
             untraced: _,
             unfinished: _,
         } = self;
-        (service, provider, clock)
+        (service, scope)
     }
 
-    /// The provider, to be flushed or told the time between requests.
-    pub fn provider_mut(&mut self) -> &mut ProviderOf<P, S, G>
-        ensures* writes_back { sem 𝓛 (Lends (the_row V.row P.row S.row G.row C.row) (provider_row P.row S.row G.row)
-            self.entry result (λ provider. record self.old { provider = provider })) }
-        ensures value { result.now ≡ self.old.provider }
+    /// The scope, to be looked at.
+    pub fn scope(&self) -> &S
+        ensures { result.now ≡ self.now.scope }
     {
-        &mut self.provider
+        &self.scope
+    }
+
+    /// The scope, to be flushed or told the time between requests.
+    pub fn scope_mut(&mut self) -> &mut S
+        ensures* writes_back { sem 𝓛 (Lends (the_row V.row S.row) S.row self.entry result
+            (λ scope. record self.old { scope = scope })) }
+        ensures value { result.now ≡ self.old.scope }
+    {
+        &mut self.scope
     }
 
     /// How many requests were served without a span, since there was no memory for one.
@@ -142,8 +126,7 @@ impl<V, P, S, G, C> Traced<V, P, S, G, C> {
         self.untraced
     }
 
-    /// How many spans lack what they are told of their response, or did not reach their processors, since there was no
-    /// memory.
+    /// How many spans lack what they are told of their response, since there was no memory.
     pub fn unfinished(&self) -> u64
         ensures { result ≡ self.now.unfinished }
     {
@@ -151,121 +134,69 @@ impl<V, P, S, G, C> Traced<V, P, S, G, C> {
     }
 }
 
-impl<V: TracedService<P, S, G, C>, P: SpanProcessor, S: ShouldSample, G: GivesIds, C: Now> Service
-    for Traced<V, P, S, G, C> {
+impl<V: TracedService<S>, S: HoldsSpans> Service for Traced<V, S> {
     ghost use Rattle.otel_http.specs.Serving.{TracesRequest};
 
-    ghost answers = { TracesRequest P.SpanProcessor S.ShouldSample G.GivesIds C.tells V.serves };
+    ghost answers = { TracesRequest S.HoldsSpans V.serves };
 
-    /// Always `Ok`: tracing never stands in the way.
+    /// Always `Ok`: tracing never stands in the way. What was current in the scope is so again.
     fn call(&mut self, request: &Request<Bytes>, response: &mut Response) -> Result<(), AllocError>
         requires { IsBlank response.old }
-        ensures ok { OnOk result (TracesRequest P.SpanProcessor S.ShouldSample G.GivesIds C.tells V.serves
-            self.old request.now response.new self.new) }
+        ensures ok { OnOk result
+            (TracesRequest S.HoldsSpans V.serves self.old request.now response.new self.new) }
         ensures err { OnErr result (self.new ≡ self.old) }
         ensures always { IsOk result }
+        ensures restores { S.current self.new.scope ≡ S.current self.old.scope }
     {
-        match extract_context(self.alloc, request.headers()) {
-            Ok(cx) => self.serve_in(request, &cx, response),
-            Err(_) => self.serve_without(request, &Context::new(), response),
+        match extract_here(&self.scope, request.headers()) {
+            Ok(cx) => self.serve_in(request, cx, response),
+            Err(_) => self.serve_inside(request, None, response),
         }
         Ok(())
     }
 }
 
-impl<V: TracedService<P, S, G, C>, P: SpanProcessor, S: ShouldSample, G: GivesIds, C: Now> Traced<
-    V,
-    P,
-    S,
-    G,
-    C,
-> {
-    /// Serves a request in a context, inside a span where there is memory for one.
-    fn serve_in(&mut self, request: &Request<Bytes>, cx: &Context, response: &mut Response)
+impl<V: TracedService<S>, S: HoldsSpans> Traced<V, S> {
+    /// Serves a request in a context.
+    fn serve_in(&mut self, request: &Request<Bytes>, cx: Context, response: &mut Response)
         requires { IsBlank response.old }
-        ensures { ServesIn P.SpanProcessor S.ShouldSample G.GivesIds C.tells V.serves self.old request.now cx.now
-            response.new self.new }
+        ensures { ServesIn S.HoldsSpans V.serves cx self.old request.now response.new self.new }
     {
-        let Ok(builder) = server_builder(self.alloc, request, self.scheme, self.keeps_query) else {
-            self.serve_without(request, cx, response);
-            return;
-        };
-        match begin_span(
-            &self.tracer,
-            builder,
-            cx,
-            &mut self.provider,
-            &mut self.clock,
-        ) {
-            Ok(begun) => self.serve_inside(request, begun, response),
-            Err(_) => self.serve_without(request, cx, response),
-        }
+        let asked = server_builder(self.scope.alloc(), request, self.scheme, self.keeps_query).ok();
+        let outside = self.scope.replace_context(cx);
+        self.serve_inside(request, asked, response);
+        let _inside = self.scope.replace_context(outside);
     }
 
-    /// Serves a request inside a span.
-    fn serve_inside(&mut self, request: &Request<Bytes>, begun: Begun, response: &mut Response)
+    /// Serves a request inside a span that begins so, where there is memory for it.
+    fn serve_inside(
+        &mut self,
+        request: &Request<Bytes>,
+        asked: Option<SpanBuilder>,
+        response: &mut Response,
+    )
         requires { IsBlank response.old }
-        ensures { ServesInside P.SpanProcessor C.tells V.serves begun.span self.old request.now begun.cx response.new
-            self.new }
+        ensures { ServesInside S.HoldsSpans V.serves asked self.old request.now response.new self.new }
     {
-        let Begun { mut span, cx } = begun;
-        ask(
-            &mut self.service,
-            request,
-            &mut span,
-            &cx,
-            &mut self.provider,
-            &mut self.clock,
-            response,
-        );
-        let told = conclude(self.alloc, &mut span, response.status, FIRST_FAILURE);
-        let end = self.clock.now();
-        end_counted(
-            span,
-            told.is_ok(),
-            &mut self.provider,
-            end,
-            &mut self.unfinished,
-        );
-    }
-
-    /// Serves a request without a span: with one that records nothing.
-    fn serve_without(&mut self, request: &Request<Bytes>, cx: &Context, response: &mut Response)
-        requires { IsBlank response.old }
-        ensures { ServesWithout V.serves self.old request.now cx.now response.new self.new }
-    {
-        let mut span = silent_span(self.alloc, &self.tracer, &mut self.provider);
-        ask(
-            &mut self.service,
-            request,
-            &mut span,
-            cx,
-            &mut self.provider,
-            &mut self.clock,
-            response,
-        );
-        span.abandon();
-        self.untraced = self.untraced.saturating_add(1);
+        let outer = self.scope.enter(asked);
+        self.untraced = counted_unless(self.untraced, self.scope.current().span.is_some());
+        ask(&mut self.service, request, &mut self.scope, response);
+        let told = tell_response(&mut self.scope, response.status, FIRST_FAILURE);
+        self.unfinished = counted_unless(self.unfinished, told.is_ok());
+        self.scope
+            .leave(outer, FIRST_FAILURE <= response.status.as_u16());
     }
 }
 
-/// A span that records nothing. It takes no memory.
-fn silent_span<P: SpanProcessor, S: ShouldSample, G: GivesIds>(
-    alloc: Global,
-    tracer: &SdkTracer,
-    provider: &mut ProviderOf<P, S, G>,
-) -> Span
-    ensures silent { IsNone result.recorded }
-    ensures same { provider.new ≡ provider.old }
+/// A count, and one more unless that holds.
+fn counted_unless(count: u64, holds: bool) -> u64
+    ensures { result ≡ counted_unless holds count }
 {
-    let Ok(suppressed) = Context::new().with_telemetry_suppressed() else {
-        unreachable!();
-    };
-    let builder = SpanBuilder::from_name(String::new(alloc));
-    let Ok(span) = tracer.build_with_context(builder, &suppressed, provider, Moment(0)) else {
-        unreachable!();
-    };
-    span
+    if holds {
+        count
+    } else {
+        count.saturating_add(1)
+    }
 }
 
 /// What a request's span begins with.
@@ -286,39 +217,17 @@ fn server_builder(
     )
 }
 
-/// Tells a span of its response. Where there is no memory it is told its status alone.
-pub(crate) fn conclude(
-    alloc: Global,
-    span: &mut Span,
-    status: StatusCode,
-    first_error: u16,
-) -> Result<(), AllocError>
-    ensures { span.new ≡ after (response_edits first_error (is_ok result) status) span.old }
-{
-    if first_error <= status.as_u16() {
-        let description = String::new(alloc);
-        let Ok(()) = span.set_status(Status::Error { description }) else {
-            unreachable!();
-        };
-    }
-    span.set_attributes(response_attributes(alloc, status, first_error)?)
-}
-
 /// Asks the service.
-fn ask<V: TracedService<P, S, G, C>, P, S, G, C>(
+fn ask<V: TracedService<S>, S: HoldsSpans>(
     service: &mut V,
     request: &Request<Bytes>,
-    span: &mut Span,
-    cx: &Context,
-    provider: &mut ProviderOf<P, S, G>,
-    clock: &mut C,
+    scope: &mut S,
     response: &mut Response,
 )
     requires { IsBlank response.old }
-    ensures { ServesOnce V.serves service.old request.now cx.now (lent span.old provider.old clock.old) response.new
-        (lent span.new provider.new clock.new) service.new }
+    ensures { ServesOnce S.HoldsSpans V.serves service.old request.now scope.old response.new scope.new service.new }
 {
-    if let Err(_) = service.serve(request, span, cx, provider, clock, response) {
+    if let Err(_) = service.serve(request, scope, response) {
         response.clear();
         response.status = StatusCode::INTERNAL_SERVER_ERROR;
     }

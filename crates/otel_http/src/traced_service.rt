@@ -1,39 +1,34 @@
 //! A service that is served inside a span.
 
-ghost use Rattle.otel_http.specs.Serving.{Serving, lent};
-ghost use Rattle.otel_pipeline.specs.SpanHistory.{IsEdited};
+ghost use Rattle.otel_http.specs.Serving.{Serving};
+ghost use Rattle.otel_http.specs.Telling.{SpanStays};
 ghost use Rattle.http_server.specs.Response.{IsBlank};
 
 use bytes::Bytes;
 use http::Request;
 use http_server::Response;
-use opentelemetry::Context;
-use otel_pipeline::trace::{ProviderOf, Span};
+use otel_scope::HoldsSpans;
 use std::alloc::AllocError;
 
-/// Turns a request into a response, inside the span of the request: as `http_server::Service`, with what the span needs.
-/// A service is generic in its provider where it can be.
-pub trait TracedService<P, S, G, C> {
-    /// What a call does: the service, the request and its context, what it is lent, the answer, the response, what it
-    /// leaves of what it was lent, and the service after.
-    ghost serves: { Serving Self P S G C };
+/// Turns a request into a response, inside the span of the request: as `http_server::Service`, with the scope in which
+/// that span is current. A service is generic in its scope where it can be.
+pub trait TracedService<S: HoldsSpans> {
+    /// What a call does: the service, the request, the scope, the answer, the response, the scope that is left, and the
+    /// service after.
+    ghost serves: { Serving Self S };
 
-    /// Fills `response`, which comes as a 200 with no header and no body. In the context the span is active: spans inside
-    /// start there, at the provider and by the clock, and what is asked of other services gets that context. The span may
-    /// be edited, and is ended by whoever calls.
+    /// Fills `response`, which comes as a 200 with no header and no body. In the scope the span is current: it may be
+    /// edited, and what is asked of other services gets its context. Whoever calls ends it, so that what is current at the
+    /// return is what was, but for edits and baggage.
     ///
     /// The error is for memory alone, and becomes a 500. Answer any other fault with a status.
     fn serve(
         &mut self,
         request: &Request<Bytes>,
-        span: &mut Span,
-        cx: &Context,
-        provider: &mut ProviderOf<P, S, G>,
-        clock: &mut C,
+        scope: &mut S,
         response: &mut Response,
     ) -> Result<(), AllocError>
         requires { IsBlank response.old }
-        ensures serves { serves self.old request.now cx.now (lent span.old provider.old clock.old) result response.new
-            (lent span.new provider.new clock.new) self.new }
-        ensures edits { IsEdited span.old span.new };
+        ensures serves { serves self.old request.now scope.old result response.new scope.new self.new }
+        ensures stays { SpanStays (S.current scope.old).span (S.current scope.new).span };
 }
