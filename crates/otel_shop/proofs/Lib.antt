@@ -1,2 +1,1 @@
-pub mod CartLemmas
 pub mod StatusLemmas

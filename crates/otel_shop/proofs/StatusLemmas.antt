@@ -9,16 +9,13 @@ use Rattle.http_server.specs.declared.response.Response.{Response}
 use Rattle.http_server.specs.Exchange.{Call, Chain}
 use Rattle.http_server.specs.Response.{IsResponse}
 use Rattle.http_uri.specs.Uri.{uri_path}
-use Rattle.opentelemetry.specs.Plain.{PlainContext}
-use Rattle.otel_sampling.specs.declared.trace.sampler.ShouldSample as sampling
-use Rattle.otel_sampling.specs.declared.trace.id_generator.GivesIds as drawing
-use Rattle.otel_pipeline.specs.declared.trace.span_processor.SpanProcessor.{Ghosts}
-use Rattle.otel_http.specs.Serving.{Lent, Responds, ServesOnce, TracedState, TracesRequest}
+use Rattle.otel_scope.specs.declared.holds_spans.HoldsSpans.{Ghosts}
+use Rattle.otel_http.specs.Serving.{Responds, ServesOnce, TracedState, TracesRequest}
 use Rattle.otel_shop.specs.declared.route.Route.{Route}
 use Rattle.otel_shop.specs.declared.route.Route.TheVariants.{Broken, Cart, Price, Slow}
 use Rattle.otel_shop.specs.declared.shop.Shop.{Shop}
 use Rattle.otel_shop.specs.Routes.{is_read, route_at}
-use Rattle.otel_shop.specs.Serving.{AnswersMethod, AnswersPath, AnswersRoute, AtShop, ServesShop}
+use Rattle.otel_shop.specs.Serving.{AnswersMethod, AnswersPath, AnswersRoute, ServesShop}
 use Rattle.otel_shop.specs.Statuses.{IsAnsweredCall, IsReadStatus, IsStatusOf}
 
 -- a cart has one of two statuses
@@ -28,61 +25,54 @@ either_status : (shown : Bool) (response : Response) (text other : List ℕ)
 either_status true response text other is = inl is.status
 either_status false response text other is = inr is.status
 
-module _ {B P S G C : Type 0} (calls : Ghosts P) (sampler : sampling.Ghosts S) (ids : drawing.Ghosts G)
-    (tells : C → ℕ → C → Type 0) (answers : B → Request (List ℕ) → Response → B → Type 0) where
-  read_status : (route : Route) (cx : PlainContext) (old : AtShop B P S G C) (response : Response)
-      (new : AtShop B P S G C) → AnswersRoute calls sampler ids tells answers route cx old response new
-      → IsReadStatus route response.status
-  read_status Cart cx old response new is = either_status (is.reply.status == 200) response _ _ is.follows
-  read_status Price cx old response new is = is.0.status
-  read_status Broken cx old response new is = is.0.status
-  read_status Slow cx old response new is = is.0.status
+module _ {B S : Type 0} (scopes : Ghosts S) (answers : B → Request (List ℕ) → Response → B → Type 0) where
+  read_status : (route : Route) (old : Shop B) (scope : S) (response : Response) (scope' : S) (new : Shop B)
+      → AnswersRoute scopes answers route old scope response scope' new → IsReadStatus route response.status
+  read_status Cart old scope response scope' new is =
+      either_status (is.reply.status == 200) response _ _ is.follows
+  read_status Price old scope response scope' new is = is.0.status
+  read_status Broken old scope response scope' new is = is.0.status
+  read_status Slow old scope response scope' new is = is.0.status
 
-  route_status : (reads : Bool) (route : Route) (cx : PlainContext) (old : AtShop B P S G C) (response : Response)
-      (new : AtShop B P S G C) → AnswersMethod calls sampler ids tells answers reads route cx old response new
+  route_status : (reads : Bool) (route : Route) (old : Shop B) (scope : S) (response : Response) (scope' : S)
+      (new : Shop B) → AnswersMethod scopes answers reads route old scope response scope' new
       → IsStatusOf (Some route) reads response.status
-  route_status true route cx old response new is = read_status route cx old response new is
-  route_status false route cx old response new is = is.0.status
+  route_status true route old scope response scope' new is = read_status route old scope response scope' new is
+  route_status false route old scope response scope' new is = is.0.status
 
-  path_status : (found : Option Route) (method : List ℕ) (old : Shop B) (cx : PlainContext) (given : Lent P S G C)
-      (response : Response) (left : Lent P S G C) (new : Shop B)
-      → AnswersPath calls sampler ids tells answers found method old cx given response left new
+  path_status : (found : Option Route) (method : List ℕ) (old : Shop B) (scope : S) (response : Response) (scope' : S)
+      (new : Shop B) → AnswersPath scopes answers found method old scope response scope' new
       → IsStatusOf found (is_read method) response.status
-  path_status None method old cx given response left new is = is.0.status
-  path_status (Some route) method old cx given response left new is =
-      route_status (is_read method) route cx _ response _ is.1
+  path_status None method old scope response scope' new is = is.0.status
+  path_status (Some route) method old scope response scope' new is =
+      route_status (is_read method) route old is.0 response scope' new is.2
 
   -- what answers a request, as the client sees it
-  seen_status : (answer : Result (Unit {0}) AllocError) (request : Request (List ℕ)) (old : Shop B)
-      (cx : PlainContext) (given : Lent P S G C) (own response : Response) (left : Lent P S G C) (new : Shop B)
-      → ServesShop calls sampler ids tells answers old request cx given answer own left new
-      → Responds answer own response → IsAnsweredCall (request, response)
-  seen_status (Ok done) request old cx given own response left new serves responds =
-      rw responds (inl (path_status (route_at (uri_path (head_of request).uri)) (head_of request).method old cx given own
-      left new serves))
-  seen_status (Err error) request old cx given own response left new serves responds = inr responds
-
-  once_status : (old : Shop B) (request : Request (List ℕ)) (cx : PlainContext) (given : Lent P S G C)
-      (response : Response) (left : Lent P S G C) (new : Shop B)
-      → ServesOnce (ServesShop calls sampler ids tells answers) old request cx given response left new
+  seen_status : (answer : Result (Unit {0}) AllocError) (request : Request (List ℕ)) (old : Shop B) (scope : S)
+      (own response : Response) (scope' : S) (new : Shop B)
+      → ServesShop scopes answers old request scope answer own scope' new → Responds answer own response
       → IsAnsweredCall (request, response)
-  once_status old request cx given response left new once =
-      seen_status once.answer request old cx given once.own response left new once.served once.responds
+  seen_status (Ok done) request old scope own response scope' new serves responds =
+      rw responds (inl (path_status (route_at (uri_path (head_of request).uri)) (head_of request).method old scope own
+      scope' new serves))
+  seen_status (Err error) request old scope own response scope' new serves responds = inr responds
 
-  traced_status : (old : TracedState (Shop B) P S G C) (request : Request (List ℕ)) (response : Response)
-      (new : TracedState (Shop B) P S G C)
-      → TracesRequest calls sampler ids tells (ServesShop calls sampler ids tells answers) old request response new
+  once_status : (old : Shop B) (request : Request (List ℕ)) (scope : S) (response : Response) (scope' : S)
+      (new : Shop B) → ServesOnce scopes (ServesShop scopes answers) old request scope response scope' new
       → IsAnsweredCall (request, response)
-  traced_status old request response new (inl (cx, carried, inl served)) =
-      once_status _ request _ _ response _ _ served.inside.serves_once
-  traced_status old request response new (inl (cx, carried, inr untraced)) =
-      once_status _ request _ _ response _ _ untraced.without.serves_once
-  traced_status old request response new (inr without) = once_status _ request _ _ response _ _ without.serves_once
+  once_status old request scope response scope' new once =
+      seen_status once.answer request old scope once.own response scope' new once.served once.responds
+
+  traced_status : (old : TracedState (Shop B) S) (request : Request (List ℕ)) (response : Response)
+      (new : TracedState (Shop B) S) → TracesRequest scopes (ServesShop scopes answers) old request response new
+      → IsAnsweredCall (request, response)
+  traced_status old request response new (inl (cx, read, served)) =
+      once_status _ request _ response _ _ served.inside.serves_once
+  traced_status old request response new (inr inside) = once_status _ request _ response _ _ inside.serves_once
 
   -- the requests of a connection
-  pub all_statuses : (done : List Call) (old new : TracedState (Shop B) P S G C)
-      → Chain (TracesRequest calls sampler ids tells (ServesShop calls sampler ids tells answers)) old done new
-      → All IsAnsweredCall done
+  pub all_statuses : (done : List Call) (old new : TracedState (Shop B) S)
+      → Chain (TracesRequest scopes (ServesShop scopes answers)) old done new → All IsAnsweredCall done
   all_statuses [] old new chain = All-nil IsAnsweredCall
   all_statuses (call ∷ done) old new chain =
       All-cons IsAnsweredCall call done (traced_status old call.0 call.1 chain.0 chain.1)

@@ -5,10 +5,6 @@ use Rattle.std.specs.Prelude.{ℕ, List, [], ◌∷◌, ◌++◌, codes}
 abbrev pub newline : List ℕ
 newline = 10 ∷ []
 
--- the scope of the shop's spans
-abbrev pub scope_text : List ℕ
-scope_text = codes "otel_shop"
-
 -- what the pages say
 abbrev pub price_text : List ℕ
 price_text = codes "7.50" ++ newline

@@ -1,72 +1,31 @@
-//! What the cart asks: the price, of a backend, inside a span of kind client. `Tracer::in_span` would do the same with
-//! less; here the steps stand one by one, since no contract can say what a closure does to a backend that it borrows.
+//! What the cart asks: the price, of a backend, inside a span of kind client.
 
-ghost use Rattle.std.specs.Prelude.{IfOk, Ok, OnErr, OnOk, codes};
+ghost use Rattle.std.specs.Prelude.{◌≡◌, IfOk, Ok, OnErr, OnOk, codes};
 ghost use Rattle.http.specs.Request.{IsHeadFor, head_of};
 ghost use Rattle.http_server.specs.Response.{IsBlank};
 ghost use Rattle.http_uri.specs.Uri.{Spells};
-ghost use Rattle.otel_pipeline.specs.SpanHistory.{IsEdited};
-ghost use Rattle.otel_shop.specs.Cart.{AsksInside, AsksPrice, CartFollows, FailsInside, Sends, TriesPrice, asker};
-ghost use Rattle.otel_shop.specs.Cart.{price_target};
+ghost use Rattle.otel_shop.specs.Cart.{AsksPrice, CartFollows, TriesPrice, price_target};
 
 use crate::answers::answer;
 use bytes::{BufMut, Bytes};
 use http::{Request, StatusCode};
 use http_server::{Response, Service};
-use opentelemetry::Context;
-use opentelemetry_sdk::trace::{
-    GivesIds, Now, ProviderOf, SdkTracer, ShouldSample, Span, SpanProcessor,
-};
-use otel_http::{Begun, begin_span, client_span, end_counted, inject_request, record_response};
+use opentelemetry_sdk::trace::HoldsSpans;
+use otel_http::ask_inside;
 use std::alloc::{AllocError, Global};
 
-/// Asks a backend for the price, inside a span of kind client, and answers its response. A span that was not told all of
-/// it, or found no memory to end, counts as unfinished.
-pub fn ask_price<B: Service, C: Now, P: SpanProcessor, S: ShouldSample, G: GivesIds>(
-    alloc: Global,
+/// Asks a backend for the price, inside a span of kind client, and answers its response.
+pub fn ask_price<S: HoldsSpans, B: Service>(
+    scope: &mut S,
     backend: &mut B,
-    tracer: &SdkTracer,
-    cx: &Context,
-    provider: &mut ProviderOf<P, S, G>,
-    clock: &mut C,
-    unfinished: &mut u64,
 ) -> Result<Response, AllocError>
-    ensures ok { IfOk result (λ reply. AsksPrice P.SpanProcessor S.ShouldSample G.GivesIds C.tells B.answers tracer.now
-        cx.now (asker backend.old provider.old clock.old unfinished.old) reply
-        (asker backend.new provider.new clock.new unfinished.new)) }
-    ensures err { OnErr result (TriesPrice P.SpanProcessor S.ShouldSample G.GivesIds C.tells tracer.now cx.now
-        (asker backend.old provider.old clock.old unfinished.old)
-        (asker backend.new provider.new clock.new unfinished.new)) }
+    ensures ok { IfOk result (λ reply. AsksPrice S.HoldsSpans B.answers backend.old scope.old (Ok reply) scope.new
+        backend.new) }
+    ensures err { OnErr result (TriesPrice S.HoldsSpans B.answers backend.old scope.old scope.new backend.new) }
+    ensures restores { S.current scope.new ≡ S.current scope.old }
 {
-    let mut asked = price_request(alloc)?;
-    let builder = client_span(alloc, &asked)?;
-    let begun = begin_span(tracer, builder, cx, provider, clock)?;
-    ask_inside(
-        alloc, backend, &mut asked, begun, provider, clock, unfinished,
-    )
-}
-
-/// Sends a request to a backend inside a span that has begun, and ends the span.
-fn ask_inside<B: Service, C: Now, P: SpanProcessor, S: Drop, G: Drop>(
-    alloc: Global,
-    backend: &mut B,
-    asked: &mut Request<Bytes>,
-    begun: Begun,
-    provider: &mut ProviderOf<P, S, G>,
-    clock: &mut C,
-    unfinished: &mut u64,
-) -> Result<Response, AllocError>
-    ensures ok { IfOk result (λ reply. AsksInside P.SpanProcessor C.tells B.answers asked.old begun.cx begun.span
-        (asker backend.old provider.old clock.old unfinished.old) reply
-        (asker backend.new provider.new clock.new unfinished.new)) }
-    ensures err { OnErr result (FailsInside P.SpanProcessor C.tells begun.span
-        (asker backend.old provider.old clock.old unfinished.old)
-        (asker backend.new provider.new clock.new unfinished.new)) }
-{
-    let Begun { mut span, cx } = begun;
-    let answered = send(alloc, backend, asked, &cx, &mut span);
-    end_counted(span, answered.is_ok(), provider, clock.now(), unfinished);
-    answered
+    let asked = price_request(scope.alloc())?;
+    ask_inside(scope, backend, asked)
 }
 
 /// The request for the price.
@@ -78,28 +37,6 @@ fn price_request(alloc: Global) -> Result<Request<Bytes>, AllocError>
         // The target reads, so that there was no memory.
         Err(_) => Err(AllocError),
     }
-}
-
-/// Sends a request to a backend in a context, and tells the span of the request what came back.
-fn send<B: Service>(
-    alloc: Global,
-    backend: &mut B,
-    asked: &mut Request<Bytes>,
-    cx: &Context,
-    span: &mut Span,
-) -> Result<Response, AllocError>
-    ensures sends { IfOk result (λ reply. Sends B.answers backend.old asked.old cx.now span.old reply span.new
-        backend.new) }
-    ensures edits { IsEdited span.old span.new }
-{
-    // All that is injected are header values, so that what fails is memory.
-    let Ok(()) = inject_request(alloc, asked, cx) else {
-        return Err(AllocError);
-    };
-    let mut reply = Response::new(alloc);
-    backend.call(asked, &mut reply)?;
-    record_response(alloc, span, reply.status)?;
-    Ok(reply)
 }
 
 /// Answers by what the backend said: its price, and 502 where it says none.

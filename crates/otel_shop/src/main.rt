@@ -166,7 +166,7 @@ fn name_losses(rt: &HostRuntime, is_whole: &mut bool, report: SpanReport) {
         closed,
         failed_exports,
         dropped,
-        untraced,
+        lost,
         unfinished,
     } = report;
     let CloseReport {
@@ -177,7 +177,7 @@ fn name_losses(rt: &HostRuntime, is_whole: &mut bool, report: SpanReport) {
     name_failure(rt, is_whole, flushed);
     name_failure(rt, is_whole, result);
     let left = stranded.saturating_add(left_open);
-    let lacking = untraced.saturating_add(unfinished);
+    let lacking = lost.saturating_add(unfinished);
     if failed_exports > 0 {
         tell(rt, is_whole, ShopError::FailedExports(failed_exports));
     }

@@ -11,7 +11,7 @@ ghost use Rattle.otel_shop.specs.Statuses.{IsAnsweredCall};
 
 use crate::shop::Shop;
 use http_server::{Connection, Service, serve};
-use opentelemetry_sdk::trace::{GivesIds, Now, ShouldSample, SpanProcessor};
+use opentelemetry_sdk::trace::HoldsSpans;
 use otel_http::Traced;
 use std::io;
 use std::io::{Read, Write};
@@ -19,17 +19,9 @@ use std::io::{Read, Write};
 /// Serves the requests of a connection until it ends, and on `Ok` it has. What was read of it and written to it are the
 /// reader's and the writer's bytes. Each request in turn was answered by the shop inside its span, and got the status of
 /// its path.
-pub fn serve_shop<
-    B: Service,
-    P: SpanProcessor,
-    S: ShouldSample,
-    G: GivesIds,
-    C: Now,
-    R: Read,
-    W: Write,
->(
+pub fn serve_shop<B: Service, S: HoldsSpans, R: Read, W: Write>(
     connection: &mut Connection,
-    shop: &mut Traced<Shop<B>, P, S, G, C>,
+    shop: &mut Traced<Shop<B>, S>,
     reader: &mut R,
     writer: &mut W,
 ) -> io::Result<()>
@@ -38,8 +30,7 @@ pub fn serve_shop<
         × ((history connection.new).received ≡ (history connection.old).received ++ more) }
     ensures written { (more : List ℕ) × Appends (W.contents writer.old) (W.contents writer.new) more
         × ((history connection.new).sent ≡ (history connection.old).sent ++ more) }
-    ensures calls { Calls (TracesRequest P.SpanProcessor S.ShouldSample G.GivesIds C.tells
-        (ServesShop P.SpanProcessor S.ShouldSample G.GivesIds C.tells B.answers)) shop.old shop.new
+    ensures calls { Calls (TracesRequest S.HoldsSpans (ServesShop S.HoldsSpans B.answers)) shop.old shop.new
         (history connection.old).calls (history connection.new).calls }
     ensures answers { (calls : List Call)
         × ((history connection.new).calls ≡ (history connection.old).calls ++ calls) × All IsAnsweredCall calls }

@@ -2,20 +2,29 @@
 
 use crate::no_backend::NoBackend;
 use crate::serving::serve_shop;
-use crate::shop::{SCOPE, Shop};
+use crate::shop::Shop;
 use http_server::{Connection, Service};
 use opentelemetry::InstrumentationScope;
 use opentelemetry_sdk::error::OTelSdkResult;
+use opentelemetry_sdk::propagation::{
+    CompositePropagator, StrictBaggagePropagator, TraceContextPropagator,
+};
 use opentelemetry_sdk::resource::Resource;
 use opentelemetry_sdk::trace::{
-    CloseReport, ConfigOf, ConfigStrings, CountsLeftSpans, FromExporter, IdSourceOf, Now,
-    ProviderOf, RandomIdGenerator, SamplerOf, SpanLimits,
+    CloseReport, Closed, ConfigOf, ConfigStrings, CountsLeftSpans, FromExporter, IdSourceOf, Now,
+    ProviderOf, RandomIdGenerator, SamplerOf, SpanLimits, Tracing,
 };
 use otel_http::Traced;
 use otel_probability::ConsistentProbabilityBased;
 use std::alloc::{AllocError, AllocFailed, Global};
 use std::io;
 use std::io::{Read, Write};
+
+/// The name of the library whose spans they are.
+const LIBRARY: &str = "otel_shop";
+
+/// The fields by which a trace and its baggage travel.
+const FIELDS: &[&str] = &["traceparent", "tracestate", "baggage"];
 
 /// Below which bound the slow page counts primes.
 const BOUND: u32 = 10_000;
@@ -28,8 +37,13 @@ type ShopIds = IdSourceOf<RandomIdGenerator>;
 
 type Provider<P> = ProviderOf<P, ShopSampler, ShopIds>;
 
+/// Headers are read and written as W3C has them.
+type ShopPropagator = CompositePropagator<TraceContextPropagator, StrictBaggagePropagator>;
+
+type Scoped<P, C> = Tracing<P, ShopSampler, ShopIds, C, ShopPropagator>;
+
 /// A shop over a backend, whose requests are traced.
-type TracedShop<B, P, C> = Traced<Shop<B>, P, ShopSampler, ShopIds, C>;
+type TracedShop<B, P, C> = Traced<Shop<B>, Scoped<P, C>>;
 
 /// What a provider is made by.
 #[derive(Drop)]
@@ -50,9 +64,9 @@ pub struct SpanReport {
     pub failed_exports: u128,
     /// How many spans found the queue full.
     pub dropped: u128,
-    /// How many requests had no span, since there was no memory.
-    pub untraced: u64,
-    /// How many spans lack something, since there was no memory.
+    /// How many spans were not made or not ended, since there was no memory.
+    pub lost: u64,
+    /// How many spans of requests lack what they are told of the response, since there was no memory.
     pub unfinished: u64,
 }
 
@@ -123,30 +137,41 @@ fn traced_shop<B, P: FromExporter, C: Now + Drop>(
     settings: &Settings,
     parts: Parts<P::Exporter, C>,
 ) -> Result<TracedShop<B, P, C>, AllocFailed<B>> {
-    let Ok(scope) = shop_scope(alloc) else {
+    let Ok(scope) = scope_over::<P, C>(alloc, settings, parts) else {
         return Err(AllocFailed { value: backend });
     };
+    let shop = Shop {
+        backend,
+        bound: BOUND,
+    };
+    Ok(Traced::new(shop, scope))
+}
+
+/// A scope over a provider of its own.
+fn scope_over<P: FromExporter, C: Now + Drop>(
+    alloc: Global,
+    settings: &Settings,
+    parts: Parts<P::Exporter, C>,
+) -> Result<Scoped<P, C>, AllocError> {
     let Parts {
         exporter,
         seed,
         clock,
     } = parts;
-    let Ok(provider) = provider_with::<P>(alloc, settings, seed, exporter) else {
-        return Err(AllocFailed { value: backend });
-    };
-    let shop = Shop {
-        alloc,
-        backend,
-        bound: BOUND,
-        unfinished: 0,
-    };
-    let tracer = provider.tracer_with_scope(scope);
-    Ok(Traced::new(alloc, shop, provider, tracer, clock))
+    let name = String::from_str(alloc, LIBRARY)?;
+    let library = InstrumentationScope::builder(alloc, name).build()?;
+    let propagator = w3c_propagator();
+    let provider = provider_with::<P>(alloc, settings, seed, exporter)?;
+    Ok(Tracing::new(alloc, provider, library, clock, propagator))
 }
 
-/// The scope of a shop's spans.
-fn shop_scope(alloc: Global) -> Result<InstrumentationScope, AllocError> {
-    InstrumentationScope::builder(alloc, String::from_str(alloc, SCOPE)?).build()
+/// The propagator of a trace, and then that of its baggage by the strict grammar.
+fn w3c_propagator() -> ShopPropagator {
+    let trace = TraceContextPropagator::new();
+    match ShopPropagator::new(trace, StrictBaggagePropagator::new(), FIELDS) {
+        Ok(both) => both,
+        Err(_) => unreachable!(),
+    }
 }
 
 /// A provider with an eager batch processor over this exporter.
@@ -184,30 +209,30 @@ fn config_of(
     Ok(config)
 }
 
-/// Exports what waits and closes the provider of a shop. Answers the backend too.
-fn close<B, P: CountsLeftSpans, C: Drop>(traced: TracedShop<B, P, C>) -> (B, SpanReport) {
-    let untraced = traced.untraced();
-    let served = traced.unfinished();
-    let (shop, mut provider, _clock) = traced.into_parts();
-    let Shop {
-        alloc: _,
-        backend,
-        bound: _,
-        unfinished,
-    } = shop;
-    let flushed = provider.force_flush();
-    let failed_exports = provider.failed_exports();
-    let dropped = provider.dropped_count();
-    let closed = provider.close();
+/// Exports what waits and closes the scope of a shop. Answers the backend too.
+fn close<B, P: CountsLeftSpans, C: Now + Drop>(traced: TracedShop<B, P, C>) -> (B, SpanReport) {
+    let unfinished = traced.unfinished();
+    let (shop, mut scope) = traced.into_parts();
+    let Shop { backend, bound: _ } = shop;
+    let flushed = scope.force_flush();
+    let failed_exports = scope.provider.failed_exports();
+    let dropped = scope.provider.dropped_count();
+    let Closed {
+        report,
+        lost,
+        tracer: _,
+        clock: _,
+        propagator: _,
+    } = scope.close();
     (
         backend,
         SpanReport {
             flushed,
-            closed,
+            closed: report,
             failed_exports,
             dropped,
-            untraced,
-            unfinished: served.saturating_add(unfinished),
+            lost,
+            unfinished,
         },
     )
 }

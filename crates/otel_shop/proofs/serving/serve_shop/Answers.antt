@@ -6,6 +6,5 @@ returns-clause-answers g c =
     let called = c.serve.ensures.calls in (
       called.0,
       called.1,
-      all_statuses g.P.SpanProcessor g.S.ShouldSample g.G.GivesIds g.C.Now.tells
-          g.B.Service.answers called.0 c.args.shop.now c.serve.new.service called.2,
+      all_statuses g.S.HoldsSpans g.B.Service.answers called.0 c.args.shop.now c.serve.new.service called.2,
     )
