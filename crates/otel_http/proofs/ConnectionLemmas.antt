@@ -18,7 +18,7 @@ use Rattle.http.specs.Request.{head_of}
 use Rattle.otel_http.specs.Headers.{header_texts}
 use Rattle.otel_http.specs.declared.traced.TheConstants.{FIRST_FAILURE}
 use Rattle.otel_http.specs.Connections.{Answered, AnswersAll, AnswersCalls, AnswersOne}
-use Rattle.otel_http.specs.Serving.{Serving, ServesIn, ServesInside, TracedState, TracesRequest, counted_unless}
+use Rattle.otel_http.specs.Serving.{Serving, ServesIn, TracedState, TracesRequest, counted_unless}
 use Rattle.otel_http.proofs.ServingLemmas.{StartsHere, enters_either, scoped, some_left, started_for, stays_said}
 
 module _ {V P S G C T : Type 0} (calls : Ghosts P) (sampler : sampling.Ghosts S) (ids : drawing.Ghosts G)

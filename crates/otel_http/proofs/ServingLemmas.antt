@@ -1,5 +1,5 @@
 -- What the span of a request records that is served in a scope over a provider.
-use Rattle.std.proofs.Common.{◌≡◌, ◌⊎◌, ◌++◌, ℕ, Bool, true, false, ◌||◌, List, [], ◌∷◌, Option, Some, None, MatchBool, IfSome, nat_le, inl, inr, refl, sym, ap, subst, ◌∙◌}
+use Rattle.std.proofs.Common.{◌≡◌, ◌⊎◌, ◌++◌, ℕ, Bool, true, false, ◌||◌, List, [], ◌∷◌, Option, Some, None, MatchBool, IfSome, nat_le, inl, inr, refl, ap, subst, ◌∙◌}
 use Rattle.opentelemetry.specs.Carrier.{Injection, Texts}
 use Rattle.opentelemetry.specs.Plain.{PlainContext, PlainSpanContext, error}
 use Rattle.opentelemetry.specs.PlainContexts.{current_span_context}
@@ -117,6 +117,11 @@ some_left (Some own) new span stays is =
 pub none_left : (old new : Option PlainSpan) → SpanStays old new → old ≡ None → new ≡ None
 none_left None new stays is = stays
 none_left (Some own) new stays is = absurd (cc)
+
+-- another context, and then that of before
+pub put_back : (here between : Current) (cx outside : PlainContext) → between ≡ record here { cx = cx }
+    → outside ≡ here.cx → record between { cx = outside } ≡ here
+put_back here between cx outside is same = rw (is, same) refl
 
 module _ {P S G C T : Type 0} (calls : Ghosts P) (sampler : sampling.Ghosts S) (ids : drawing.Ghosts G)
     (tells : C → ℕ → C → Type 0) where

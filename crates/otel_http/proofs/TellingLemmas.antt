@@ -1,5 +1,5 @@
 -- What is told to the span that is current leaves it current, but for edits.
-use Rattle.std.proofs.Common.{◌≡◌, Bool, true, false, List, [], ◌∷◌, Option, Some, None, Result, Ok, IsErr, MatchBool, inl, inr, refl, sym, subst}
+use Rattle.std.proofs.Common.{◌≡◌, Bool, true, false, List, [], ◌∷◌, Option, Some, None, Result, Ok, Err, MatchBool, OnErr, OnOk, inl, inr, refl, sym, subst}
 use Rattle.std.specs.Option.{option_map}
 use Rattle.std.specs.declared.alloc.AllocError.{AllocError}
 use Rattle.otel_pipeline.specs.SpanHistory.{Edit, PlainSpan, edited}
@@ -49,3 +49,10 @@ module _ {S : Type 0} (scopes : Ghosts S) where
           → StaysHere scopes old new
       by true told = each_stays edits old answer new told
       by false told = same_stays old new told.1
+
+  -- one edit and then another
+  pub tells_two : (first second : Edit) (old told new : S) (answer : Result (Unit {0}) AllocError)
+      → TellsOne scopes first old told → OnOk answer (TellsOne scopes second told new) → OnErr answer (new ≡ told)
+      → TellsEach scopes (first ∷ second ∷ []) old answer new
+  tells_two first second old told new (Ok done) one other same = inr (told, one, inr (new, other, (refl, refl)))
+  tells_two first second old told new (Err error) one other same = inr (told, one, inl (refl, same))

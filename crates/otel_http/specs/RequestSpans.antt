@@ -1,5 +1,5 @@
 -- The span of a request: what it begins with, what it is told of the response, and what is recorded of it.
-use Rattle.std.specs.Prelude.{◌≡◌, ℕ, ◌+◌, ◌-◌, ◌^◌, Bool, List, [], ◌∷◌, ◌++◌, Some, map, min, nat_le, if◌then◌else◌}
+use Rattle.std.specs.Prelude.{◌≡◌, ℕ, ◌+◌, ◌-◌, ◌^◌, Bool, List, [], ◌∷◌, Some, map, min, nat_le, if◌then◌else◌}
 use Rattle.http.specs.declared.request.Parts.{Parts}
 use Rattle.opentelemetry.specs.Plain.{PlainContext, PlainKeyValue, PlainSpanContext, error}
 use Rattle.opentelemetry.specs.PlainContexts.{current_span_context}

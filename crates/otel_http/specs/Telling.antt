@@ -4,7 +4,6 @@ use Rattle.std.specs.declared.alloc.AllocError.{AllocError}
 use Rattle.otel_pipeline.specs.SpanHistory.{Edit, IsEdited, PlainSpan}
 use Rattle.otel_scope.specs.Currents.{edited_here, records_here}
 use Rattle.otel_scope.specs.Working.{Becomes}
-use Rattle.otel_scope.specs.declared.current.Current.{Current}
 use Rattle.otel_scope.specs.declared.holds_spans.HoldsSpans.{Ghosts}
 
 -- the span that was current still is, but for edits; where none was, none is

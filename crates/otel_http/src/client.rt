@@ -1,6 +1,6 @@
 //! A request to another service: its span, and the headers by which the other service takes part in the trace.
 
-ghost use Rattle.std.specs.Prelude.{◌≡◌, IfOk, OnErr, OnOk};
+ghost use Rattle.std.specs.Prelude.{◌≡◌, IfOk, IfSome, OnErr, OnOk};
 ghost use Rattle.http.specs.Request.{head_of, with_head};
 ghost use Rattle.otel_http.specs.Asking.{Asks, Sends, is_failed};
 ghost use Rattle.otel_http.specs.ContextFields.{SetsFields, SetsUpTo, context_fields, other_fields};
@@ -65,16 +65,26 @@ pub fn client_span<B>(alloc: Global, request: &Request<B>) -> Result<SpanBuilder
 pub fn ask_inside<S: HoldsSpans, B: Service>(
     scope: &mut S,
     service: &mut B,
-    request: Request<Bytes>,
+    mut request: Request<Bytes>,
 ) -> Result<Response, AllocError>
     ensures asks { Asks S.HoldsSpans B.answers service.old request scope.old result scope.new service.new }
     ensures restores { S.current scope.new ≡ S.current scope.old }
 {
-    let builder = client_span(scope.alloc(), &request).ok();
-    let outer = scope.enter(builder);
-    let answered = send(scope, service, request);
+    let asked = client_builder(scope.alloc(), &request);
+    let outer = scope.enter(asked);
+    let answered = send(scope, service, &mut request);
     scope.leave(outer, is_failed(&answered));
     answered
+}
+
+/// What the span of such a request begins with; none where there is no memory for it.
+fn client_builder(alloc: Global, request: &Request<Bytes>) -> Option<SpanBuilder>
+    ensures { IfSome result (IsClientBuilder (head_of request.now)) }
+{
+    match client_span(alloc, request) {
+        Ok(builder) => Some(builder),
+        Err(_) => None,
+    }
 }
 
 /// Whether a request failed for its client.
@@ -91,15 +101,25 @@ fn is_failed(answered: &Result<Response, AllocError>) -> bool
 fn send<S: HoldsSpans, B: Service>(
     scope: &mut S,
     service: &mut B,
-    mut request: Request<Bytes>,
+    request: &mut Request<Bytes>,
 ) -> Result<Response, AllocError>
-    ensures sends { IfOk result (λ reply. Sends S.HoldsSpans B.answers service.old request scope.old reply scope.new
+    ensures sends { IfOk result (λ reply. Sends S.HoldsSpans B.answers service.old request.old scope.old reply scope.new
         service.new) }
     ensures stays { SpanStays (S.current scope.old).span (S.current scope.new).span }
 {
-    inject_here(scope, request.headers_mut())?;
+    carry(scope, request)?;
     let mut reply = Response::new(scope.alloc());
-    service.call(&request, &mut reply)?;
+    service.call(request, &mut reply)?;
     tell_response(scope, reply.status, FIRST_ERROR)?;
     Ok(reply)
+}
+
+/// Writes what of the current context travels into the headers of a request; all else of it stays as it is.
+fn carry<S: HoldsSpans>(scope: &S, request: &mut Request<Bytes>) -> Result<(), AllocError>
+    ensures injects { S.injects scope.now (S.current scope.now).cx (header_texts (head_of request.old).headers) result
+        (header_texts (head_of request.new).headers) }
+    ensures rest { request.new ≡ with_head request.old
+        (record (head_of request.old) { headers = (head_of request.new).headers }) }
+{
+    inject_here(scope, request.headers_mut())
 }

@@ -1,6 +1,6 @@
 //! The attributes of spans of HTTP (OpenTelemetry semantic conventions, "HTTP spans", stable).
 
-ghost use Rattle.std.specs.Prelude.{◌≡◌, ◌++◌, ◌∷◌, ℕ, IfOk, List, None, OnErr, OnOk, Option, codes};
+ghost use Rattle.std.specs.Prelude.{◌≡◌, ◌++◌, ℕ, IfOk, List, None, OnOk, Option, codes};
 ghost use Rattle.std.specs.Prelude.{if◌then◌else◌, option_copied, option_map, string_bytes, unwrap_or};
 ghost use Rattle.http_uri.specs.Uri.{uri_query, uri_scheme};
 ghost use Rattle.http.specs.Request.{head_of};

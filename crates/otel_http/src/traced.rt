@@ -162,7 +162,7 @@ impl<V: TracedService<S>, S: HoldsSpans> Traced<V, S> {
         requires { IsBlank response.old }
         ensures { ServesIn S.HoldsSpans V.serves cx self.old request.now response.new self.new }
     {
-        let asked = server_builder(self.scope.alloc(), request, self.scheme, self.keeps_query).ok();
+        let asked = server_builder(self.scope.alloc(), request, self.scheme, self.keeps_query);
         let outside = self.scope.replace_context(cx);
         self.serve_inside(request, asked, response);
         let _inside = self.scope.replace_context(outside);
@@ -199,8 +199,23 @@ fn counted_unless(count: u64, holds: bool) -> u64
     }
 }
 
-/// What a request's span begins with.
+/// What a request's span begins with; none where there is no memory for it.
 fn server_builder(
+    alloc: Global,
+    request: &Request<Bytes>,
+    scheme: &'static str,
+    keeps_query: bool,
+) -> Option<SpanBuilder>
+    ensures { IfSome result (IsServerBuilder scheme.now keeps_query (head_of request.now)) }
+{
+    match server_span(alloc, request, scheme, keeps_query) {
+        Ok(builder) => Some(builder),
+        Err(_) => None,
+    }
+}
+
+/// What a request's span begins with.
+fn server_span(
     alloc: Global,
     request: &Request<Bytes>,
     scheme: &'static str,
