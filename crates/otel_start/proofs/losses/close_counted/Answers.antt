@@ -1,5 +1,5 @@
 use Rattle.std.proofs.Common.{◌≡◌, Ok, OnOk, arith, refl, subst}
-use Rattle.otel_hello.proofs.losses.close_counted.Goals as goal
+use Rattle.otel_start.proofs.losses.close_counted.Goals as goal
 
 pub returns : goal.returns
 returns g c = record {
@@ -9,8 +9,8 @@ returns g c = record {
   closed = c.close-report.result;
   closes = c.close-report.ensures;
   failure = λ is. subst
-      (λ answer. OnOk answer ((c.args.worked ≡ Ok tt) × (c.force_flush-flushed.result ≡ Ok tt)
-      × (c.close-report.result.report.result ≡ Ok tt))) is c.first_failure.ensures;
+      (λ answer. OnOk answer ((c.force_flush-flushed.result ≡ Ok tt) × (c.close-report.result.report.result ≡ Ok tt))) is
+      c.first_failure.ensures;
   lost = refl;
   failed_exports = c.failed_exports-failed_exports.ensures;
   dropped = c.dropped_count-dropped.ensures;

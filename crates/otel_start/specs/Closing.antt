@@ -1,13 +1,12 @@
 -- How a scope over a provider is closed, and what was lost of its spans.
 use Rattle.std.specs.Prelude.{◌≡◌, ℕ, Ok, Result, sum_by}
-use Rattle.std.specs.declared.alloc.AllocError.{AllocError}
 use Rattle.otel_export.specs.declared.error.OTelSdkError.{OTelSdkError}
 use Rattle.otel_pipeline.specs.declared.trace.counts_left_spans.CountsLeftSpans as leaving
 use Rattle.otel_pipeline.specs.declared.trace.span_processor.SpanProcessor.{Ghosts}
 use Rattle.otel_scope.specs.Tracings.{Closes, FlushesHere}
 use Rattle.otel_scope.specs.declared.tracing.Closed.{Closed}
 use Rattle.otel_scope.specs.declared.tracing.Tracing.{Tracing}
-use Rattle.otel_hello.specs.declared.losses.Losses.{Losses}
+use Rattle.otel_start.specs.declared.losses.Losses.{Losses}
 
 -- nothing was lost
 pub record AreNone (losses : Losses) : Type 0 where
@@ -18,23 +17,22 @@ pub record AreNone (losses : Losses) : Type 0 where
   pub left : losses.left ≡ 0
 
 module _ {P S G C T : Type 0} (calls : Ghosts P) (queues : leaving.Ghosts P) (tells : C → ℕ → C → Type 0) where
-  -- the processors of a scope at which work was done were flushed, its losses were counted, and it was closed; all of it
-  -- is Ok only where each part is
-  pub record ClosesCounted (old : Tracing P S G C T) (worked : Result (Unit {0}) AllocError) (losses : Losses)
-      : Type 0 where
+  -- the processors of a scope were flushed, what they lost was counted, and the scope was closed; that nothing failed is
+  -- said only where neither the flush nor the close did
+  pub record ClosesCounted (old : Tracing P S G C T) (losses : Losses) : Type 0 where
     pub answer : Result (Unit {0}) OTelSdkError
     pub flushed : Tracing P S G C T
     pub flushes : FlushesHere calls old answer flushed
     pub closed : Closed C T
     pub closes : Closes calls queues tells flushed closed
-    pub failure : losses.failure ≡ Ok tt → (worked ≡ Ok tt) × (answer ≡ Ok tt) × (closed.report.result ≡ Ok tt)
+    pub failure : losses.failure ≡ Ok tt → (answer ≡ Ok tt) × (closed.report.result ≡ Ok tt)
     pub lost : losses.lost ≡ closed.lost
     pub failed_exports : losses.failed_exports ≡ sum_by queues.failed_over flushed.provider.processors
     pub dropped : losses.dropped ≡ sum_by queues.dropped_over flushed.provider.processors
     pub left : losses.left ≡ 0 → (closed.report.stranded ≡ 0) × (closed.report.left_open ≡ 0)
 
-  -- work was done at a scope, which was closed, and nothing was lost
+  -- a scope was closed so, and nothing was lost
   pub record ClosesWhole (old : Tracing P S G C T) : Type 0 where
     pub losses : Losses
-    pub closes : ClosesCounted old (Ok tt) losses
+    pub closes : ClosesCounted old losses
     pub are_none : AreNone losses
