@@ -5,21 +5,26 @@
 
 use opentelemetry_sdk::trace::Scope;
 use otel_otlp::OtlpJsonExporter;
-use otel_start::StartError;
+use otel_start::Program;
 use std::alloc::AllocError;
 use std::process::ExitCode;
 
-fn main(rt: HostRuntime) -> Result<ExitCode, StartError> {
-    let exporter = OtlpJsonExporter::new(rt.alloc(), rt.stderr());
-    let mut scope = otel_start::start(rt, "hello", exporter)?;
-    let greeted = hello(&mut scope);
-    Ok(otel_start::close(rt, scope, greeted))
-}
+#[derive(Drop)]
+struct Hello;
 
-fn hello<S: Scope>(scope: &mut S) -> Result<(), AllocError> {
-    scope.in_span("hello", |scope| greet(scope, "world"))
+impl Program for Hello {
+    type Error = AllocError;
+
+    fn run<S: Scope>(self, scope: &mut S) -> Result<(), AllocError> {
+        scope.in_span("hello", |scope| greet(scope, "world"))
+    }
 }
 
 fn greet<S: Scope>(scope: &mut S, name: &str) -> Result<(), AllocError> {
     scope.in_span("greet", |scope| scope.set_attribute("greeting.name", name))
+}
+
+fn main(rt: HostRuntime) -> ExitCode {
+    let exporter = OtlpJsonExporter::new(rt.alloc(), rt.stderr());
+    otel_start::run(rt, "hello", exporter, Hello)
 }

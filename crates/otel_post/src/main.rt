@@ -11,6 +11,7 @@ use crate::post_error::PostError;
 use opentelemetry_sdk::trace::Scope;
 use otel_http_post::Endpoint;
 use otel_otlp_http::{Encoding, OtlpHttpExporter};
+use otel_start::Program;
 use std::alloc::AllocError;
 use std::env;
 use std::process::ExitCode;
@@ -23,7 +24,7 @@ const PATH: &str = "/v1/traces";
 
 fn main(rt: HostRuntime) -> ExitCode {
     match endpoint(&rt) {
-        Ok(endpoint) => post(&rt, endpoint),
+        Ok(endpoint) => post(rt, endpoint),
         Err(error) => {
             let _told = eprintln!(rt; "{PROGRAM}: {error}");
             ExitCode::FAILURE
@@ -42,22 +43,27 @@ fn endpoint(rt: &HostRuntime) -> Result<Endpoint, PostError> {
 }
 
 /// Traces a greeting, and posts its spans.
-fn post(rt: &HostRuntime, endpoint: Endpoint) -> ExitCode {
+fn post(rt: HostRuntime, endpoint: Endpoint) -> ExitCode {
     let connection = StdConnection {
         input: rt.stdin(),
         output: rt.stdout(),
     };
     let exporter = OtlpHttpExporter::new(rt.alloc(), endpoint, Encoding::Protobuf, connection);
-    otel_start::run(rt, PROGRAM, exporter, |scope| hello(scope))
+    otel_start::run(rt, PROGRAM, exporter, Hello)
 }
 
-fn hello<S: Scope>(scope: &mut S) -> Result<(), AllocError> {
-    scope.in_span("hello", |scope| {
-        scope.set_attribute("greeting.language", "en")?;
-        greet(scope)
-    })
+/// What the program traces.
+#[derive(Drop)]
+struct Hello;
+
+impl Program for Hello {
+    type Error = AllocError;
+
+    fn run<S: Scope>(self, scope: &mut S) -> Result<(), AllocError> {
+        scope.in_span("hello", |scope| greet(scope, "world"))
+    }
 }
 
-fn greet<S: Scope>(scope: &mut S) -> Result<(), AllocError> {
-    scope.in_span("greet", |scope| scope.set_attribute("greeting.name", "world"))
+fn greet<S: Scope>(scope: &mut S, name: &str) -> Result<(), AllocError> {
+    scope.in_span("greet", |scope| scope.set_attribute("greeting.name", name))
 }

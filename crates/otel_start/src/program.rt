@@ -3,7 +3,7 @@
 ghost use Rattle.std.specs.Prelude.{◌≡◌, IfOk, IsOk, is_err};
 ghost use Rattle.std.specs.Process.{exit_status};
 ghost use Rattle.otel_start.specs.Closing.{ClosesWhole};
-ghost use Rattle.otel_start.specs.Starting.{IsStarted};
+ghost use Rattle.otel_start.specs.Starting.{IsStarted, RunsWhole};
 
 use crate::{
     BuiltInPropagator, Losses, Settings, StartError, StartedScope, close_counted, scope_over,
@@ -11,7 +11,7 @@ use crate::{
 use opentelemetry::propagation::TextMapPropagator;
 use opentelemetry_sdk::propagation::{ConfiguredPropagators, built_in_propagators};
 use opentelemetry_sdk::trace::{
-    ConfigStrings, CountsLeftSpans, FromExporter, GivesIds, Now, ProcessorOf, ShouldSample,
+    ConfigStrings, CountsLeftSpans, FromExporter, GivesIds, Now, ProcessorOf, Scope, ShouldSample,
     SimpleSpanProcessor, SpanExporter, Tracing,
 };
 use otel_host::{HostClock, HostVariables, Variables, config_strings, random_seed};
@@ -25,7 +25,7 @@ use std::time::Clock;
 
 /// What an exporter is put behind. All exporters have it.
 pub trait HasProcessor: Drop + Sized {
-    type Processor: FromExporter<Exporter = Self>;
+    type Processor: CountsLeftSpans + FromExporter<Exporter = Self>;
 }
 
 impl<E: SpanExporter> HasProcessor for E {
@@ -34,6 +34,40 @@ impl<E: SpanExporter> HasProcessor for E {
 
 /// The scope of a program, by its host's clock.
 pub type HostScope<R, P> = StartedScope<P, HostClock<R>, BuiltInPropagator>;
+
+/// What a program does in its scope.
+pub trait Program: Drop + Sized {
+    ghost use Rattle.std.specs.Prelude.{Result};
+
+    type Error: Display + Drop;
+
+    /// What it may answer.
+    ghost answers: { Self → Result (Unit {0}) Self.Error → Type 0 } = { λ _ _. Unit {0} };
+
+    fn run<S: Scope>(self, scope: &mut S) -> Result<(), Self::Error>
+    where
+        ensures { answers self result };
+}
+
+/// Starts a program's scope, has the program run in it, and closes it: what `main` calls. The status is that of `close`;
+/// where the host gives no clock, no seed or no memory, standard error says so, and the program does not run.
+pub fn run<R, E: HasProcessor, W: Program>(rt: R, name: &str, exporter: E, program: W) -> ExitCode
+where
+    R: Copy + AllocGlobal + Clock + Env + Eprint + RandomSource,
+    ensures { exit_status result ≡ 0 → RunsWhole E.Processor.SpanProcessor E.Processor.CountsLeftSpans.own
+        ⟦<HostClock<R> as Now>⟧.tells (W.answers program) }
+{
+    match start(rt, name, exporter) {
+        Ok(mut scope) => {
+            let worked = program.run(&mut scope);
+            close(rt, scope, worked)
+        }
+        Err(error) => {
+            let _told = eprintln!(rt; "otel: {error}");
+            ExitCode::FAILURE
+        }
+    }
+}
 
 /// Starts the scope of a program: its spans are those of a library of this name, and of a service of this name where the
 /// environment does not name one. The environment's variables of an SDK configure it; one whose value does not read is
