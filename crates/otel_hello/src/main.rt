@@ -3,9 +3,8 @@
 //! protocol's JSON.
 #![tactic(auto)]
 
-use opentelemetry_sdk::trace::Scope;
 use otel_otlp::OtlpJsonExporter;
-use otel_start::Program;
+use otel_start::{Program, Scope};
 use std::alloc::AllocError;
 use std::process::ExitCode;
 

@@ -8,10 +8,9 @@ mod post_error;
 
 use crate::connection::StdConnection;
 use crate::post_error::PostError;
-use opentelemetry_sdk::trace::Scope;
 use otel_http_post::Endpoint;
 use otel_otlp_http::{Encoding, OtlpHttpExporter};
-use otel_start::Program;
+use otel_start::{Program, Scope};
 use std::alloc::AllocError;
 use std::env;
 use std::process::ExitCode;

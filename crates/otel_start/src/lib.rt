@@ -9,6 +9,7 @@ mod start_error;
 mod started;
 
 pub use losses::{Losses, close_counted};
+pub use opentelemetry_sdk::trace::Scope;
 pub use program::{HasProcessor, HostScope, Program, close, run, start};
 pub use start_error::StartError;
 pub use started::{
