@@ -1,0 +1,321 @@
+-- The digits that are kept read back, and so does their text.
+use Rattle.std.proofs.Common.{◌≡◌, ℕ, zero, suc, ◌+◌, ◌-◌, ◌*◌, ◌/◌, ◌%◌, ◌^◌, ◌<◌, ◌≤◌, ◌⊎◌, pos, negsuc, Bool, true, false, cond, List, [], ◌∷◌, ◌++◌, length, get_or, take, drop, replicate, slice_range, refl, sym, ap, ◌∙◌, subst, inl, inr, arith, mul-one, pow-suc, pow-add, mul-le-mul_left, mul-le-mul_right, lt-ltb, le-ltb, eqb-true, length-append, take_at, div-add-mod', mod-lt, div-one}
+use Rattle.std.specs.Prelude.{◌-ℤ◌}
+use Rattle.std.proofs.lemmas.Bool.{cases_lt, cases_Bool}
+use Rattle.std.proofs.lemmas.Fmt.{decimal_is_IsNumeral, decimal_nonempty, first_decimal, decimal_digit, decimal_step, length-decimal-le}
+use Rattle.std.proofs.lemmas.List.{get_or_at}
+use Rattle.std.specs.Fmt.{decimal}
+use Rattle.std.specs.Str.Parse.{digits_value, AllDigits}
+use lib.Ieee.{binary64, fits, round, of_bits, to_bits}
+use lib.Ieee.Bits.{of_bits-to_bits}
+use lib.Ieee.Fits.{round-fits}
+use Rattle.fast_float.specs.Rounding.{nearest_to_decimal, IsNearestBits}
+use Rattle.fast_float.proofs.ExactLemmas.{ten_to_pos}
+use Rattle.fast_float.proofs.Extremes.{round_tens}
+use Rattle.ryu.specs.Plain.{IsTextOf, HasDigits, EndsAboveZero}
+use Rattle.ryu.proofs.Texts.{whole_form, split_form, small_form, scientific_form}
+use Rattle.otel_float.specs.FloatText.{whole, places, first_digits, point, rounded, reads_back, count_from, kept_count, without_zeros, exponent_text, with_exponent, layout, short_text, finite_text}
+use Rattle.otel_float.proofs.Counting.{HasCount, has_count}
+use Rattle.otel_float.proofs.Keeping.{count_here, count_on, count_none, zero_off, no_zero, no_more}
+use Rattle.otel_float.proofs.Near.{has_room, AreFirst, are_first, whole_some, seventeen, point_is}
+
+-- ---- what the test of the digits says
+nearest_is : (d q : ℕ) → nearest_to_decimal binary64 false d (pos q -ℤ pos 400) ≡ round binary64 false (d * 10 ^ (q - 400)) (10 ^ (400 - q))
+nearest_is d q =
+    elim (cases_lt q 400) [
+      | inl l ↦
+          let e : 400 - q ≡ suc (400 - suc q) = omega arith in
+          let none : q - 400 ≡ 0 = omega arith in
+          ap (λ b. nearest_to_decimal binary64 false d (cond b (negsuc (400 - suc q)) (pos (q - 400)))) (lt-ltb q 400 l)
+          ∙ ap (λ n. round binary64 false n (10 ^ suc (400 - suc q))) (sym (mul-one d) ∙ ap (λ n. d * 10 ^ n) (sym none))
+          ∙ ap (λ n. round binary64 false (d * 10 ^ (q - 400)) (10 ^ n)) (sym e)
+      | inr g ↦
+          let none : 400 - q ≡ 0 = omega arith in
+          ap (λ b. nearest_to_decimal binary64 false d (cond b (negsuc (400 - suc q)) (pos (q - 400)))) (le-ltb q 400 g)
+          ∙ ap (λ n. round binary64 false (d * 10 ^ (q - 400)) (10 ^ n)) (sym none)
+    ]
+
+reads_nearest : (bits d q : ℕ) → bits < 2047 * 2 ^ 52 → reads_back bits d q ≡ true → IsNearestBits binary64 (d * 10 ^ (q - 400)) (10 ^ (400 - q)) bits
+unfolding reads_back
+reads_nearest bits d q finite h =
+    let y = round binary64 false (d * 10 ^ (q - 400)) (10 ^ (400 - q)) in
+    let e : to_bits binary64 y ≡ bits = ap (to_bits binary64) (sym (nearest_is d q)) ∙ eqb-true _ bits h in
+    (ap (of_bits binary64) (sym e) ∙ of_bits-to_bits binary64 y (round-fits binary64 false _ _), omega arith)
+
+-- ---- how many digits are kept
+record IsCounted (bits first at n limit r : ℕ) : Type 0 where
+  pub least : n ≤ r
+  pub most : r ≤ limit
+  pub says : (r ≡ limit) ⊎ (reads_back bits (rounded first r) (at - r) ≡ true)
+
+is_counted : (more bits first at n most : ℕ) → n + more ≡ most → IsCounted bits first at n most (count_from more bits first at n)
+is_counted zero bits first at n most e = rw (count_none bits first at n) (record { least = omega arith; most = omega arith; says = inl (omega arith) })
+is_counted (suc more) bits first at n most e =
+    elim (cases_Bool (reads_back bits (rounded first n) (at - n))) [
+      | inl back ↦ rw (count_here more bits first at n back) (record { least = omega arith; most = omega arith; says = inr back })
+      | inr away ↦ let r = is_counted more bits first at (suc n) most (omega arith) in rw (count_on more bits first at n away) (record { least = omega arith; most = r.most; says = r.says })
+    ]
+
+pub record IsKept (bits first at r : ℕ) : Type 0 where
+  pub some : 1 ≤ r
+  pub few : r ≤ 17
+  pub says : (r ≡ 17) ⊎ (reads_back bits (rounded first r) (at - r) ≡ true)
+
+is_kept : (bits first at : ℕ) → IsKept bits first at (kept_count bits first at)
+unfolding kept_count
+is_kept bits first at =
+    elim (cases_lt bits (2 ^ 52)) [
+      | inl small ↦ let r = is_counted 16 bits first at 1 17 refl in rw (lt-ltb bits (2 ^ 52) small) (record { some = r.least; few = r.most; says = r.says })
+      | inr large ↦ let r = is_counted 2 bits first at 15 17 refl in rw (le-ltb bits (2 ^ 52) large) (record { some = omega (arith, r.least); few = r.most; says = r.says })
+    ]
+
+-- ---- the digits that are kept
+record HasEighteen (first : ℕ) : Type 0 where
+  pub from : 10 ^ 17 ≤ first
+  pub below : first < 10 ^ 18
+
+has_eighteen : (w c first : ℕ) → HasCount w c → AreFirst w (suc c) first → HasEighteen first
+has_eighteen w c first count are =
+    let p = 10 ^ c in
+    let ten : 10 ^ suc c ≡ p * 10 = pow-suc 10 c in
+    let P = ten_to_pos c in
+    let low : 10 ^ 17 * p < (first + 1) * p = omega (arith, are.below, count.from, ap (λ n. (first + 1) * n) ten) in
+    let high : first * p < 10 ^ 18 * p = omega (arith, are.from, count.below, ten, ap (λ n. first * n) ten) in
+    record { from = omega (arith, Rattle.std.proofs.Common.lt_of_mul-lt-mul_right p low); below = Rattle.std.proofs.Common.lt_of_mul-lt-mul_right p high }
+
+-- the first r digits of 18, rounded
+size_of : (first r : ℕ) → r ≤ 17 → 1 ≤ r → HasEighteen first → (0 < rounded first r) × (rounded first r ≤ 10 ^ r)
+unfolding rounded
+size_of first r few some has =
+    let k = 17 - r in
+    let t = 10 ^ k in
+    let sum : r + k ≡ 17 = omega arith in
+    let whole : 10 ^ r * t ≡ 10 ^ 17 = sym (pow-add 10 r k) ∙ ap (λ n. 10 ^ n) sum in
+    let T = ten_to_pos k in
+    let split = div-add-mod' first t in
+    let less = mod-lt first T in
+    let q = first / t in
+    let one : 1 ≤ 10 ^ r = ten_to_pos r in
+    let low : 10 ^ r * t < (q + 1) * t = omega (arith, whole, split, less, has.from) in
+    let high : q * t < 10 * 10 ^ r * t = omega (arith, whole, split, has.below) in
+    let a = Rattle.std.proofs.Common.lt_of_mul-lt-mul_right t low in
+    let b = Rattle.std.proofs.Common.lt_of_mul-lt-mul_right t high in
+    (at_least q (10 ^ r) (ten_at r some) a, omega (arith, b))
+  where
+    at_least : (q p : ℕ) → 10 ≤ p → p < q + 1 → 0 < (q + 5) / 10
+    at_least q p h l = omega arith
+
+    ten_at : (r : ℕ) → 1 ≤ r → 10 ≤ 10 ^ r
+    ten_at zero h = absurd (omega arith)
+    ten_at (suc r) h = omega (arith, pow-suc 10 r, ten_to_pos r)
+
+-- ---- the zeros at their end
+record IsTrimmed (digits power short at : ℕ) : Type 0 where
+  pub zeros : ℕ
+  pub same : short * 10 ^ zeros ≡ digits
+  pub moved : at ≡ power + zeros
+  pub last : 0 < short % 10
+
+is_trimmed : (most digits power : ℕ) → 0 < digits → digits < 10 ^ suc most → IsTrimmed digits power (without_zeros most digits power).0 (without_zeros most digits power).1
+is_trimmed zero digits power some small = rw (no_more digits power) (record { zeros = 0; same = mul-one digits; moved = omega arith; last = omega arith })
+is_trimmed (suc most) digits power some small =
+    elim (cases_lt 0 (digits % 10)) [
+      | inl ends ↦ rw (no_zero most digits power (λ e. omega arith)) (record { zeros = 0; same = mul-one digits; moved = omega arith; last = ends })
+      | inr none ↦
+          let zero_is : digits % 10 ≡ 0 = omega arith in
+          let r = is_trimmed most (digits / 10) (power + 1) (omega arith) (omega (arith, pow-suc 10 (suc most))) in
+          let s = (without_zeros most (digits / 10) (power + 1)).0 in
+          rw (zero_off most digits power zero_is)
+          (record { zeros = suc r.zeros; same = ap (λ n. s * n) (pow-suc 10 r.zeros) ∙ omega (arith, r.same); moved = omega (arith, r.moved); last = r.last })
+    ]
+
+-- a decimal without them has the same worth
+shorter : (bits digits power short at : ℕ) → IsTrimmed digits power short at → IsNearestBits binary64 (digits * 10 ^ (power - 400)) (10 ^ (400 - power)) bits
+    → IsNearestBits binary64 (short * 10 ^ (at - 400)) (10 ^ (400 - at)) bits
+shorter bits digits power short at trimmed near =
+    let t = trimmed.zeros in
+    let join : digits * 10 ^ (power - 400) ≡ short * 10 ^ (t + (power - 400)) =
+    ap (λ n. n * 10 ^ (power - 400)) (sym trimmed.same) ∙ Rattle.std.proofs.Common.mul_assoc short (10 ^ t) (10 ^ (power - 400)) ∙ ap (λ n. short * n) (sym (pow-add 10 t (power - 400))) in (
+      near.0 ∙ ap (λ n. round binary64 false n (10 ^ (400 - power))) join ∙ round_tens binary64 short (t + (power - 400)) (400 - power) (at - 400) (400 - at) (omega (arith, trimmed.moved)),
+      near.1,
+    )
+
+-- ---- the layout
+abbrev padded : List ℕ → List ℕ
+padded ds = ds ++ replicate (17 - length ds) 48
+
+part_is : (ds : List ℕ) → slice_range (padded ds) 0 (length ds) ≡ ds
+part_is ds = take_at ds (replicate (17 - length ds) 48) (length ds - 0) (omega arith)
+
+pub record AreShort (ds : List ℕ) : Type 0 where
+  pub some : 0 < length ds
+  pub few : length ds ≤ 17
+  pub all : AllDigits 10 ds
+  pub lead : 48 < get_or ds 0 0
+  pub last : 48 < get_or ds (length ds - 1) 0
+
+has_digits : (ds : List ℕ) → AreShort ds → HasDigits (padded ds) 0 (length ds)
+has_digits ds short = record {
+  room = (omega arith, short.some, short.few);
+  long = ap length (part_is ds) ∙ omega arith;
+  all = subst (AllDigits 10) (sym (part_is ds)) short.all;
+  lead = subst (λ ts. 48 < get_or ts 0 0) (sym (part_is ds)) short.lead;
+  bytes = ap (λ ts. ts ++ replicate (17 - length ds) 48) (sym (part_is ds));
+}
+
+ends : (ds : List ℕ) → AreShort ds → EndsAboveZero (padded ds) 0 (length ds)
+ends ds short =
+    let e : length ds - 0 - 1 ≡ length ds - 1 = omega arith in
+    rw (part_is ds, e) short.last
+
+module _ (ds : List ℕ) (q : ℕ) (short : AreShort ds) where
+  abbrev end : ℕ
+  end = q + length ds
+
+  abbrev size : ℕ
+  size = end - 401 + (401 - end)
+
+  long_part : length (slice_range (padded ds) 0 (length ds)) ≡ length ds
+  long_part = ap length (part_is ds)
+
+  exponent_form : (negative : Bool) → size < 1000 → cond negative 0 size + (400 - q) ≡ q - 400 + (length ds - 1 + cond negative size 0) → cond negative 6 16 ≤ size → Rattle.std.proofs.Common.ltb end 401 ≡ negative
+      → IsTextOf false 16 4 (with_exponent ds end) (digits_value 10 ds) q
+  unfolding with_exponent exponent_text
+  exponent_form true small places far is =
+      let more = Rattle.std.proofs.Common.ltb 1 (length ds) in
+      rw is
+      (subst (λ ts. IsTextOf false 16 4 ((take 1 ts ++ cond more (46 ∷ drop 1 ts) []) ++ 101 ∷ ((45 ∷ []) ++ decimal size)) (digits_value 10 ts) q) (part_is ds)
+      (scientific_form (padded ds) 0 (length ds) (has_digits ds short) false 16 4 q size more true small (λ e. omega (arith, long_part, Rattle.std.proofs.Common.ltb-true 1 (length ds) e)) (λ e. omega (arith, long_part, short.some, Rattle.std.proofs.Common.ltb-false 1 (length ds) e))
+      (omega (arith, long_part, places)) far (ends ds short)))
+  exponent_form false small places far is =
+      let more = Rattle.std.proofs.Common.ltb 1 (length ds) in
+      rw is
+      (subst (λ ts. IsTextOf false 16 4 ((take 1 ts ++ cond more (46 ∷ drop 1 ts) []) ++ 101 ∷ ([] ++ decimal size)) (digits_value 10 ts) q) (part_is ds)
+      (scientific_form (padded ds) 0 (length ds) (has_digits ds short) false 16 4 q size more false small (λ e. omega (arith, long_part, Rattle.std.proofs.Common.ltb-true 1 (length ds) e)) (λ e. omega (arith, long_part, short.some, Rattle.std.proofs.Common.ltb-false 1 (length ds) e))
+      (omega (arith, long_part, places)) far (ends ds short)))
+
+  far_down : end < 396 → IsTextOf false 16 4 (layout ds q) (digits_value 10 ds) q
+  unfolding layout
+  far_down low = rw (lt-ltb end 396 low) (exponent_form true (omega arith) (omega (arith, short.some)) (omega arith) (lt-ltb end 401 (omega arith)))
+
+  far_up : 416 < end → q ≤ 800 → IsTextOf false 16 4 (layout ds q) (digits_value 10 ds) q
+  unfolding layout
+  far_up high most = rw (le-ltb end 396 (omega arith), lt-ltb 416 end high) (exponent_form false (omega (arith, short.few)) (omega (arith, short.some)) (omega arith) (le-ltb end 401 (omega arith)))
+
+  small : 396 ≤ end → end < 401 → IsTextOf false 16 4 (layout ds q) (digits_value 10 ds) q
+  unfolding layout
+  small low high =
+      rw (le-ltb end 396 low, le-ltb 416 end (omega arith), lt-ltb end 401 high)
+      (subst (λ ts. IsTextOf false 16 4 (48 ∷ 46 ∷ (replicate (400 - end) 48 ++ ts)) (digits_value 10 ts) q) (part_is ds)
+      (small_form (padded ds) 0 (length ds) (has_digits ds short) false q (400 - end) 16 4 (ends ds short) (omega arith) (omega arith)))
+
+  split : 401 ≤ end → end ≤ 416 → q < 400 → IsTextOf false 16 4 (layout ds q) (digits_value 10 ds) q
+  unfolding layout
+  split low high less =
+      rw (le-ltb end 396 (omega arith), le-ltb 416 end high, le-ltb end 401 low, lt-ltb q 400 less)
+      (subst (λ ts. IsTextOf false 16 4 (take (end - 400) ts ++ 46 ∷ drop (end - 400) ts) (digits_value 10 ts) q) (part_is ds)
+      (split_form (padded ds) 0 (length ds) (has_digits ds short) false q (end - 400) 16 4 (ends ds short) less (omega arith) (omega (arith, long_part)) (omega arith)))
+
+  plain : end ≤ 416 → 400 ≤ q → IsTextOf false 16 4 (layout ds q) (digits_value 10 ds) q
+  unfolding layout
+  plain high more =
+      rw (le-ltb end 396 (omega arith), le-ltb 416 end high, le-ltb end 401 (omega (arith, short.some)), le-ltb q 400 more)
+      (subst (λ ts. IsTextOf false 16 4 ((ts ++ replicate (q - 400) 48) ++ 46 ∷ 48 ∷ []) (digits_value 10 ts) q) (part_is ds)
+      (whole_form (padded ds) 0 (length ds) (has_digits ds short) false q (q - 400) 16 4 (omega arith) (omega arith)))
+
+  pub laid_out : q ≤ 800 → IsTextOf false 16 4 (layout ds q) (digits_value 10 ds) q
+  laid_out most =
+      elim (cases_lt end 396) [
+        | inl low ↦ far_down low
+        | inr a ↦ elim (cases_lt 416 end) [
+          | inl high ↦ far_up high most
+          | inr b ↦ elim (cases_lt end 401) [
+            | inl l ↦ small a l
+            | inr g ↦ elim (cases_lt q 400) [ inl less ↦ split g b less | inr more ↦ plain b more ]
+          ]
+        ]
+      ]
+
+-- ---- the digits of a number that does not end in 0
+last_digit : (n : ℕ) → n < 2 ^ 64 → 0 < n % 10 → 48 < get_or (decimal n) (length (decimal n) - 1) 0
+last_digit n fits some =
+    elim (cases_lt n 10) [
+      | inl one ↦ rw (decimal_digit n one) (omega arith)
+      | inr more ↦
+          let ds = decimal (n / 10) in
+          let e = decimal_step n more fits in
+          let at : length ds ≡ length (ds ++ (48 + n % 10) ∷ []) - 1 = omega (arith, length-append ds ((48 + n % 10) ∷ [])) in
+          rw e (subst (λ (x : ℕ). 48 < x) (sym (get_or_at ds (48 + n % 10) [] 0 _ at)) (omega arith))
+    ]
+
+are_short : (n : ℕ) → n < 10 ^ 17 → 0 < n % 10 → AreShort (decimal n)
+are_short n small some =
+    let fits : n < 2 ^ 64 = omega arith in
+    let numeral = decimal_is_IsNumeral n fits in
+    record {
+      some = decimal_nonempty n fits;
+      few = length-decimal-le 17 n (omega arith) small fits;
+      all = numeral.0.1;
+      lead = first_decimal n (omega arith) fits;
+      last = last_digit n fits some;
+    }
+
+short_below : (digits short t : ℕ) → short * 10 ^ t ≡ digits → digits ≤ 10 ^ 17 → 0 < short % 10 → short < 10 ^ 17
+short_below digits short zero e h some = omega arith
+short_below digits short (suc t) e h some =
+    let one : 1 ≤ 10 ^ suc t = ten_to_pos (suc t) in
+    let ten : 10 ≤ 10 ^ suc t = omega (arith, pow-suc 10 t, ten_to_pos t) in
+    omega (arith, mul-le-mul_left short ten)
+
+-- ---- all together: a text of some digits and a power that read back
+pub record IsTextFor (bits : ℕ) (text : List ℕ) : Type 0 where
+  pub digits : ℕ
+  pub power : ℕ
+  pub text_of : IsTextOf false 16 4 text digits power
+  pub near : IsNearestBits binary64 (digits * 10 ^ (power - 400)) (10 ^ (400 - power)) bits
+
+pub finite_is : (bits : ℕ) → 0 < bits → bits < 2047 * 2 ^ 52 → IsTextFor bits (finite_text bits)
+unfolding finite_text short_text
+finite_is bits some finite =
+    let w = whole bits in
+    let found = has_count w (whole_some bits some) in
+    let c = found.0 in
+    let count = found.1 in
+    let room = has_room bits c some finite count in
+    let first = first_digits w in
+    let at = point bits in
+    let r = kept_count bits first at in
+    let kept = is_kept bits first at in
+    let d = rounded first r in
+    let eighteen = has_eighteen w c first count (are_first w (suc c) count.is) in
+    let sizes = size_of first r kept.few kept.some eighteen in
+    let ten : 0 < 10 = omega arith in
+    let most : 10 ^ r ≤ 10 ^ 17 = native.Mathlib.Nat.pow-le-pow_right ten kept.few in
+    let near : IsNearestBits binary64 (d * 10 ^ (at - r - 400)) (10 ^ (400 - (at - r))) bits =
+    elim kept.says [
+      | inl all ↦ subst (λ n. IsNearestBits binary64 (rounded first n * 10 ^ (at - n - 400)) (10 ^ (400 - (at - n))) bits) (sym all) (seventeen bits c some finite count)
+      | inr reads ↦ reads_nearest bits d (at - r) finite reads
+    ] in
+    let trimmed = is_trimmed 17 d (at - r) sizes.0 (omega (arith, sizes.1, most)) in
+    let short = (without_zeros 17 d (at - r)).0 in
+    let power = (without_zeros 17 d (at - r)).1 in
+    let below = short_below d short trimmed.zeros trimmed.same (omega (arith, sizes.1, most)) trimmed.last in
+    let numeral = decimal_is_IsNumeral short (omega arith) in
+    let upper : power ≤ 800 = omega (arith, trimmed.moved, point_is bits (suc c) count.is, room.up, zeros_few d short trimmed.zeros trimmed.same sizes.0 (omega (arith, sizes.1, most))) in
+    record {
+      digits = short;
+      power = power;
+      text_of = subst (λ n. IsTextOf false 16 4 (layout (decimal short) power) n power) numeral.1 (laid_out (decimal short) power (are_short short below trimmed.last) upper);
+      near = shorter bits d (at - r) short power trimmed near;
+    }
+  where
+    zeros_few : (digits short t : ℕ) → short * 10 ^ t ≡ digits → 0 < digits → digits ≤ 10 ^ 17 → t ≤ 17
+    zeros_few digits zero t e some h = absurd (omega arith)
+    zeros_few digits (suc short) t e some h =
+        elim (cases_lt t 18) [
+          | inl l ↦ omega arith
+          | inr g ↦
+              let ten : 0 < 10 = omega arith in
+              let many : 10 ^ 18 ≤ 10 ^ t = native.Mathlib.Nat.pow-le-pow_right ten g in
+              absurd (omega arith)
+        ]
