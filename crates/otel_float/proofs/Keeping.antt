@@ -1,18 +1,18 @@
 -- One step of the count of digits, and of the zeros at their end.
 use Rattle.std.proofs.Common.{◌≡◌, ℕ, suc, ◌+◌, ◌-◌, ◌/◌, ◌%◌, true, false, refl, eq-eqb, ne_eqb}
-use Rattle.otel_float.specs.FloatText.{count_from, reads_back, rounded, without_zeros}
+use Rattle.otel_float.specs.FloatText.{whole, point, count_from, reads_back, rounded, without_zeros}
 
-pub count_here : (more bits first at n : ℕ) → reads_back bits (rounded first n) (at - n) ≡ true → count_from (suc more) bits first at n ≡ n
+pub count_here : (more bits n : ℕ) → reads_back bits (rounded (whole bits) n) (point bits - n) ≡ true → count_from (suc more) bits n ≡ n
 unfolding count_from
-count_here more bits first at n h = rw h refl
+count_here more bits n h = rw h refl
 
-pub count_on : (more bits first at n : ℕ) → reads_back bits (rounded first n) (at - n) ≡ false → count_from (suc more) bits first at n ≡ count_from more bits first at (suc n)
+pub count_on : (more bits n : ℕ) → reads_back bits (rounded (whole bits) n) (point bits - n) ≡ false → count_from (suc more) bits n ≡ count_from more bits (suc n)
 unfolding count_from
-count_on more bits first at n h = rw h refl
+count_on more bits n h = rw h refl
 
-pub count_none : (bits first at n : ℕ) → count_from 0 bits first at n ≡ n
+pub count_none : (bits n : ℕ) → count_from 0 bits n ≡ n
 unfolding count_from
-count_none bits first at n = refl
+count_none bits n = refl
 
 pub zero_off : (most digits power : ℕ) → digits % 10 ≡ 0 → without_zeros (suc most) digits power ≡ without_zeros most (digits / 10) (power + 1)
 unfolding without_zeros

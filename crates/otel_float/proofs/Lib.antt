@@ -4,4 +4,5 @@ pub mod Leading
 pub mod LimbsLemmas
 pub mod Near
 pub mod Reading
+pub mod Rounding
 pub mod Texts

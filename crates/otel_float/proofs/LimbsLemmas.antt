@@ -132,9 +132,9 @@ module _ (old xs ys : List ℕ) (len f carry : ℕ) (in_use : AreInUse old len) 
       subst (λ (n : ℕ). 0 < n) (sym (get_or_append_left xs ys 0 (len - 1) within)) (top_of (get_or xs (len - 1) 0) more (omega (arith, kept none, grows, least)))
 
 -- ---- the three limbs at the top
-pub three_more : (xs : List ℕ) (j a b t : ℕ) → j + 2 < length xs → AreLimbs xs → b ≡ get_or xs j 0 → a ≡ get_or xs (j + 1) 0 → t ≡ get_or xs (j + 2) 0
-    → (low : ℕ) × (low < 10 ^ (9 * j)) × (limbs_value (take (j + 3) xs) ≡ low + 10 ^ (9 * j) * (a * 10 ^ 9 + b + 10 ^ 18 * t))
-three_more xs j a b t within h eb ea et =
+pub three_more : (xs : List ℕ) (j a b t : ℕ) → j + 2 < length xs → b ≡ get_or xs j 0 → a ≡ get_or xs (j + 1) 0 → t ≡ get_or xs (j + 2) 0
+    → limbs_value (take (j + 3) xs) ≡ limbs_value (take j xs) + 10 ^ (9 * j) * (a * 10 ^ 9 + b + 10 ^ 18 * t)
+three_more xs j a b t within eb ea et =
     let p = 10 ^ (9 * j) in
     let e2 : j + 1 + 1 ≡ j + 2 = omega arith in
     let e3 : j + 2 + 1 ≡ j + 3 = omega arith in
@@ -142,11 +142,18 @@ three_more xs j a b t within h eb ea et =
     let second = ap (λ n. limbs_value (take n xs)) (sym e2) ∙ one_more xs (j + 1) (omega arith) in
     let third = ap (λ n. limbs_value (take n xs)) (sym e3) ∙ one_more xs (j + 2) (omega arith) in
     let p1 : 10 ^ (9 * (j + 1)) ≡ 10 ^ 9 * p = next_power j in
-    let p2 : 10 ^ (9 * (j + 2)) ≡ 10 ^ 18 * p = ap (λ n. 10 ^ (9 * n)) (sym e2) ∙ next_power (j + 1) ∙ omega (arith, p1) in (
-      limbs_value (take j xs),
-      front_below xs j h (omega arith),
-      third
-          ∙ ap (λ x. x + 10 ^ (9 * (j + 2)) * get_or xs (j + 2) 0) second
-          ∙ ap (λ x. x + 10 ^ (9 * (j + 1)) * get_or xs (j + 1) 0 + 10 ^ (9 * (j + 2)) * get_or xs (j + 2) 0) first
-          ∙ rw (p1, p2, ← eb, ← ea, ← et) (omega arith),
-    )
+    let p2 : 10 ^ (9 * (j + 2)) ≡ 10 ^ 18 * p = ap (λ n. 10 ^ (9 * n)) (sym e2) ∙ next_power (j + 1) ∙ omega (arith, p1) in
+    third
+    ∙ ap (λ x. x + 10 ^ (9 * (j + 2)) * get_or xs (j + 2) 0) second
+    ∙ ap (λ x. x + 10 ^ (9 * (j + 1)) * get_or xs (j + 1) 0 + 10 ^ (9 * (j + 2)) * get_or xs (j + 2) 0) first
+    ∙ rw (p1, p2, ← eb, ← ea, ← et) (omega arith)
+
+-- ---- nothing but zeros
+pub value_zero : (xs : List ℕ) → ((k : ℕ) → k < length xs → get_or xs k 0 ≡ 0) → limbs_value xs ≡ 0
+value_zero [] h = refl
+value_zero (x ∷ xs) h = omega (arith, h 0 (omega arith), value_zero xs (λ k l. h (suc k) (omega arith)))
+
+pub value_some : (xs : List ℕ) (k : ℕ) → 0 < get_or xs k 0 → 0 < limbs_value xs
+value_some [] k h = absurd (omega arith)
+value_some (x ∷ xs) zero h = omega arith
+value_some (x ∷ xs) (suc k) h = omega (arith, value_some xs k h)

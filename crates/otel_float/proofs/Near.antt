@@ -7,12 +7,13 @@ use lib.Ieee.{binary64}
 use Rattle.fast_float.specs.Rounding.{scaled_bits, IsNearestBits}
 use Rattle.fast_float.proofs.ExactLemmas.{ten_to_pos}
 use Rattle.fast_float.proofs.RoundingLemmas.{nearest_of_near}
-use Rattle.otel_float.specs.FloatText.{significand, exponent, places, whole, digit_count, first_digits, point, rounded}
+use Rattle.otel_float.specs.FloatText.{significand, exponent, places, whole, digit_count, point, rounded}
+use Rattle.otel_float.proofs.Rounding.{rounded_close}
 use Rattle.otel_float.proofs.Counting.{HasCount}
 
 -- The decimal d * a / b and the float m * u / z lie less than half of u / z apart.
 -- Here w / p is the float, and t and c are the powers of ten of the digits that are kept and of all digits.
-module _ (m w d u z p t a b c : ℕ) (float : w * z ≡ m * u * p) (tens : a * p * t ≡ b * c) (from : 2 * (d * c) ≤ 2 * (w * t) + c) (below : 2 * (w * t) < 2 * (d * c) + c) (gap : z * c < u * p * t) (B : 0 < b) (Z : 0 < z) where
+module _ (m w d u z p t a b c : ℕ) (float : w * z ≡ m * u * p) (tens : a * p * t ≡ b * c) (from : 2 * (d * c) ≤ 2 * (w * t) + c) (below : 2 * (w * t) ≤ 2 * (d * c) + c) (gap : z * c < u * p * t) (B : 0 < b) (Z : 0 < z) where
   left : b * t * (w * z) ≡ b * t * (m * u * p)
   left = ap (λ x. b * t * x) float
 
@@ -27,7 +28,7 @@ module _ (m w d u z p t a b c : ℕ) (float : w * z ≡ m * u * p) (tens : a * p
 
   pub not_far_below : 2 * (m * (b * u)) < 2 * (d * a * z) + b * u
   not_far_below =
-      let step : 2 * (w * t) * (b * z) < (2 * (d * c) + c) * (b * z) = mul-lt-mul_of_pos_right below scale in
+      let step : 2 * (w * t) * (b * z) ≤ (2 * (d * c) + c) * (b * z) = mul-le-mul_right (b * z) below in
       lt_of_mul-lt-mul_right (p * t) (omega (arith, left, right, wide, step))
 
   pub not_far_above : 2 * (d * a * z) < 2 * (m * (b * u)) + b * u
@@ -178,29 +179,7 @@ has_room bits c some finite count =
     let less : c < suc (309 + p) = pow_less 10 c (suc (309 + p)) ten (lt_of_le_of_lt high next) in
     record { down = far_down p (suc c) (places_few bits) (lt_of_le_of_lt (whole_least bits some) count.below); up = omega arith }
 
--- ---- the first digits, and 17 of them
-pub record AreFirst (w c first : ℕ) : Type 0 where
-  pub from : first * 10 ^ c ≤ w * 10 ^ 18
-  pub below : w * 10 ^ 18 < (first + 1) * 10 ^ c
-
-pub are_first : (w c : ℕ) → digit_count w ≡ c → AreFirst w c (first_digits w)
-unfolding first_digits
-are_first w c e =
-    let q = w * 10 ^ 18 / 10 ^ c in
-    let split = div-add-mod' (w * 10 ^ 18) (10 ^ c) in
-    let less = mod-lt (w * 10 ^ 18) (ten_to_pos c) in
-    rw e (record { from = omega (arith, split); below = omega (arith, split, less) })
-
-all_digits : (first : ℕ) → rounded first 17 ≡ (first + 5) / 10
-unfolding rounded
-all_digits first = ap (λ n. (n + 5) / 10) (div-one first)
-
-rounded_from : (first w c d : ℕ) → d ≡ (first + 5) / 10 → first * c ≤ w * 10 ^ 18 → 2 * (d * c) ≤ 2 * (w * 10 ^ 17) + c
-rounded_from first w c d e h = let most : 10 * d ≤ first + 5 = omega arith in omega (arith, mul-le-mul_right c most)
-
-rounded_below : (first w c d : ℕ) → d ≡ (first + 5) / 10 → w * 10 ^ 18 < (first + 1) * c → 2 * (w * 10 ^ 17) < 2 * (d * c) + c
-rounded_below first w c d e h = let least : first + 1 ≤ 10 * d + 5 = omega arith in omega (arith, mul-le-mul_right c least)
-
+-- ---- 17 digits
 above_least : (a m n u : ℕ) → a < m → 2 * (m * u) < 2 * n + u → a * u ≤ n
 above_least a m n u more lower = let next : a + 1 ≤ m = omega arith in omega (arith, mul-le-mul_right u next)
 
@@ -218,13 +197,12 @@ point_is bits c e = ap (λ n. 400 + n - places bits) e
 
 -- 17 digits read back
 pub seventeen : (bits c : ℕ) → 0 < bits → bits < 2047 * 2 ^ 52 → HasCount (whole bits) c
-    → IsNearestBits binary64 (rounded (first_digits (whole bits)) 17 * 10 ^ (point bits - 17 - 400)) (10 ^ (400 - (point bits - 17))) bits
+    → IsNearestBits binary64 (rounded (whole bits) 17 * 10 ^ (point bits - 17 - 400)) (10 ^ (400 - (point bits - 17))) bits
 seventeen bits c some finite count =
     let w = whole bits in
     let p = places bits in
     let q = point bits - 17 in
-    let first = first_digits w in
-    let d = rounded first 17 in
+    let d = rounded w 17 in
     let room = has_room bits c some finite count in
     let u = has_units bits some finite in
     let m = u.0 in
@@ -232,9 +210,9 @@ seventeen bits c some finite count =
     let has = u.2 in
     let float = whole_is bits ∙ ap (λ n. n * 10 ^ p) has.value in
     let tens = power_sum q p (suc c) (ap (λ n. n - 17) (point_is bits (suc c) count.is)) room.down in
-    let are = are_first w (suc c) count.is in
-    let from = rounded_from first w (10 ^ suc c) d (all_digits first) are.from in
-    let below = rounded_below first w (10 ^ suc c) d (all_digits first) are.below in
+    let close = rounded_close w 17 (suc c) count.is in
+    let from = close.0 in
+    let below = close.1 in
     let unit = mul-pos (pow_pos k) (ten_to_pos p) in
     let gap = wide_gap m w (2 ^ k) (2 ^ 1074) (10 ^ p) (10 ^ suc c) float has.small (ten_times c w count.from) unit in
     let B = ten_to_pos (400 - q) in

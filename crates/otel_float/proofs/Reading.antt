@@ -14,10 +14,11 @@ use Rattle.fast_float.proofs.ExactLemmas.{ten_to_pos}
 use Rattle.fast_float.proofs.Extremes.{round_tens}
 use Rattle.ryu.specs.Plain.{IsTextOf, HasDigits, EndsAboveZero}
 use Rattle.ryu.proofs.Texts.{whole_form, split_form, small_form, scientific_form}
-use Rattle.otel_float.specs.FloatText.{whole, places, first_digits, point, rounded, reads_back, count_from, kept_count, without_zeros, exponent_text, with_exponent, layout, short_text, finite_text}
+use Rattle.otel_float.specs.FloatText.{whole, places, digit_count, point, rounded, reads_back, count_from, kept_count, without_zeros, exponent_text, with_exponent, layout, short_text, finite_text}
 use Rattle.otel_float.proofs.Counting.{HasCount, has_count}
 use Rattle.otel_float.proofs.Keeping.{count_here, count_on, count_none, zero_off, no_zero, no_more}
-use Rattle.otel_float.proofs.Near.{has_room, AreFirst, are_first, whole_some, seventeen, point_is}
+use Rattle.otel_float.proofs.Near.{HasRoom, has_room, whole_some, seventeen, point_is}
+use Rattle.otel_float.proofs.Rounding.{rounded_size}
 
 -- ---- what the test of the digits says
 nearest_is : (d q : ℕ) → nearest_to_decimal binary64 false d (pos q -ℤ pos 400) ≡ round binary64 false (d * 10 ^ (q - 400)) (10 ^ (400 - q))
@@ -43,71 +44,31 @@ reads_nearest bits d q finite h =
     (ap (of_bits binary64) (sym e) ∙ of_bits-to_bits binary64 y (round-fits binary64 false _ _), omega arith)
 
 -- ---- how many digits are kept
-record IsCounted (bits first at n limit r : ℕ) : Type 0 where
+record IsCounted (bits n limit r : ℕ) : Type 0 where
   pub least : n ≤ r
   pub most : r ≤ limit
-  pub says : (r ≡ limit) ⊎ (reads_back bits (rounded first r) (at - r) ≡ true)
+  pub says : (r ≡ limit) ⊎ (reads_back bits (rounded (whole bits) r) (point bits - r) ≡ true)
 
-is_counted : (more bits first at n most : ℕ) → n + more ≡ most → IsCounted bits first at n most (count_from more bits first at n)
-is_counted zero bits first at n most e = rw (count_none bits first at n) (record { least = omega arith; most = omega arith; says = inl (omega arith) })
-is_counted (suc more) bits first at n most e =
-    elim (cases_Bool (reads_back bits (rounded first n) (at - n))) [
-      | inl back ↦ rw (count_here more bits first at n back) (record { least = omega arith; most = omega arith; says = inr back })
-      | inr away ↦ let r = is_counted more bits first at (suc n) most (omega arith) in rw (count_on more bits first at n away) (record { least = omega arith; most = r.most; says = r.says })
+is_counted : (more bits n most : ℕ) → n + more ≡ most → IsCounted bits n most (count_from more bits n)
+is_counted zero bits n most e = rw (count_none bits n) (record { least = omega arith; most = omega arith; says = inl (omega arith) })
+is_counted (suc more) bits n most e =
+    elim (cases_Bool (reads_back bits (rounded (whole bits) n) (point bits - n))) [
+      | inl back ↦ rw (count_here more bits n back) (record { least = omega arith; most = omega arith; says = inr back })
+      | inr away ↦ let r = is_counted more bits (suc n) most (omega arith) in rw (count_on more bits n away) (record { least = omega arith; most = r.most; says = r.says })
     ]
 
-pub record IsKept (bits first at r : ℕ) : Type 0 where
+pub record IsKept (bits r : ℕ) : Type 0 where
   pub some : 1 ≤ r
   pub few : r ≤ 17
-  pub says : (r ≡ 17) ⊎ (reads_back bits (rounded first r) (at - r) ≡ true)
+  pub says : (r ≡ 17) ⊎ (reads_back bits (rounded (whole bits) r) (point bits - r) ≡ true)
 
-is_kept : (bits first at : ℕ) → IsKept bits first at (kept_count bits first at)
+is_kept : (bits : ℕ) → IsKept bits (kept_count bits)
 unfolding kept_count
-is_kept bits first at =
+is_kept bits =
     elim (cases_lt bits (2 ^ 52)) [
-      | inl small ↦ let r = is_counted 16 bits first at 1 17 refl in rw (lt-ltb bits (2 ^ 52) small) (record { some = r.least; few = r.most; says = r.says })
-      | inr large ↦ let r = is_counted 2 bits first at 15 17 refl in rw (le-ltb bits (2 ^ 52) large) (record { some = omega (arith, r.least); few = r.most; says = r.says })
+      | inl small ↦ let r = is_counted 16 bits 1 17 refl in rw (lt-ltb bits (2 ^ 52) small) (record { some = r.least; few = r.most; says = r.says })
+      | inr large ↦ let r = is_counted 2 bits 15 17 refl in rw (le-ltb bits (2 ^ 52) large) (record { some = omega (arith, r.least); few = r.most; says = r.says })
     ]
-
--- ---- the digits that are kept
-record HasEighteen (first : ℕ) : Type 0 where
-  pub from : 10 ^ 17 ≤ first
-  pub below : first < 10 ^ 18
-
-has_eighteen : (w c first : ℕ) → HasCount w c → AreFirst w (suc c) first → HasEighteen first
-has_eighteen w c first count are =
-    let p = 10 ^ c in
-    let ten : 10 ^ suc c ≡ p * 10 = pow-suc 10 c in
-    let P = ten_to_pos c in
-    let low : 10 ^ 17 * p < (first + 1) * p = omega (arith, are.below, count.from, ap (λ n. (first + 1) * n) ten) in
-    let high : first * p < 10 ^ 18 * p = omega (arith, are.from, count.below, ten, ap (λ n. first * n) ten) in
-    record { from = omega (arith, Rattle.std.proofs.Common.lt_of_mul-lt-mul_right p low); below = Rattle.std.proofs.Common.lt_of_mul-lt-mul_right p high }
-
--- the first r digits of 18, rounded
-size_of : (first r : ℕ) → r ≤ 17 → 1 ≤ r → HasEighteen first → (0 < rounded first r) × (rounded first r ≤ 10 ^ r)
-unfolding rounded
-size_of first r few some has =
-    let k = 17 - r in
-    let t = 10 ^ k in
-    let sum : r + k ≡ 17 = omega arith in
-    let whole : 10 ^ r * t ≡ 10 ^ 17 = sym (pow-add 10 r k) ∙ ap (λ n. 10 ^ n) sum in
-    let T = ten_to_pos k in
-    let split = div-add-mod' first t in
-    let less = mod-lt first T in
-    let q = first / t in
-    let one : 1 ≤ 10 ^ r = ten_to_pos r in
-    let low : 10 ^ r * t < (q + 1) * t = omega (arith, whole, split, less, has.from) in
-    let high : q * t < 10 * 10 ^ r * t = omega (arith, whole, split, has.below) in
-    let a = Rattle.std.proofs.Common.lt_of_mul-lt-mul_right t low in
-    let b = Rattle.std.proofs.Common.lt_of_mul-lt-mul_right t high in
-    (at_least q (10 ^ r) (ten_at r some) a, omega (arith, b))
-  where
-    at_least : (q p : ℕ) → 10 ≤ p → p < q + 1 → 0 < (q + 5) / 10
-    at_least q p h l = omega arith
-
-    ten_at : (r : ℕ) → 1 ≤ r → 10 ≤ 10 ^ r
-    ten_at zero h = absurd (omega arith)
-    ten_at (suc r) h = omega (arith, pow-suc 10 r, ten_to_pos r)
 
 -- ---- the zeros at their end
 record IsTrimmed (digits power short at : ℕ) : Type 0 where
@@ -282,18 +243,16 @@ finite_is bits some finite =
     let c = found.0 in
     let count = found.1 in
     let room = has_room bits c some finite count in
-    let first = first_digits w in
     let at = point bits in
-    let r = kept_count bits first at in
-    let kept = is_kept bits first at in
-    let d = rounded first r in
-    let eighteen = has_eighteen w c first count (are_first w (suc c) count.is) in
-    let sizes = size_of first r kept.few kept.some eighteen in
+    let r = kept_count bits in
+    let kept = is_kept bits in
+    let d = rounded w r in
+    let sizes = rounded_size w r c kept.some count in
     let ten : 0 < 10 = omega arith in
     let most : 10 ^ r ≤ 10 ^ 17 = native.Mathlib.Nat.pow-le-pow_right ten kept.few in
     let near : IsNearestBits binary64 (d * 10 ^ (at - r - 400)) (10 ^ (400 - (at - r))) bits =
     elim kept.says [
-      | inl all ↦ subst (λ n. IsNearestBits binary64 (rounded first n * 10 ^ (at - n - 400)) (10 ^ (400 - (at - n))) bits) (sym all) (seventeen bits c some finite count)
+      | inl all ↦ subst (λ n. IsNearestBits binary64 (rounded w n * 10 ^ (at - n - 400)) (10 ^ (400 - (at - n))) bits) (sym all) (seventeen bits c some finite count)
       | inr reads ↦ reads_nearest bits d (at - r) finite reads
     ] in
     let trimmed = is_trimmed 17 d (at - r) sizes.0 (omega (arith, sizes.1, most)) in

@@ -21,7 +21,7 @@ places bits = 1074 - exponent bits
 unfoldable pub whole : ℕ → ℕ
 whole bits = significand bits * 2 ^ (exponent bits - 1074) * 5 ^ places bits
 
--- ---- its first digits
+-- ---- where its point stands
 
 -- how many digits n has, where it has no more than `most`
 unfoldable pub count_up_to : ℕ → ℕ → ℕ
@@ -32,35 +32,35 @@ count_up_to (suc most) n = if n == 0 then 0 else suc (count_up_to most (n / 10))
 unfoldable pub digit_count : ℕ → ℕ
 digit_count n = count_up_to n n
 
--- the first 18 digits of n, with zeros after them where it has fewer
-unfoldable pub first_digits : ℕ → ℕ
-first_digits n = n * 10 ^ 18 / 10 ^ digit_count n
-
 -- The float is 0.DDD * 10 ^ (point - 400), where DDD are its digits.
 unfoldable pub point : ℕ → ℕ
 point bits = 400 + digit_count (whole bits) - places bits
 
--- the first n of 18 digits, with the digit after them rounded, half up
-unfoldable pub rounded : ℕ → ℕ → ℕ
-rounded first n = (first / 10 ^ (17 - n) + 5) / 10
+-- ---- some of its digits
 
--- ---- how many of them
+-- the whole number nearest to a / b, and of two the even one
+unfoldable pub nearest_even : ℕ → ℕ → ℕ
+nearest_even a b = if nat_lt (2 * (a % b)) b then a / b else (if nat_lt b (2 * (a % b)) then a / b + 1 else a / b + a / b % 2)
+
+-- w with its first n digits alone, rounded, and with zeros after them where it has fewer
+abbrev pub rounded : ℕ → ℕ → ℕ
+rounded w n = nearest_even (w * 10 ^ n) (10 ^ digit_count w)
 
 -- the float nearest to digits * 10 ^ (power - 400) has these bits
 unfoldable pub reads_back : ℕ → ℕ → ℕ → Bool
 reads_back bits digits power = to_bits binary64 (nearest_to_decimal binary64 false digits (pos power -ℤ pos 400)) == bits
 
 -- the first count from n on at which the digits read back, and n + more where none before it does
-unfoldable pub count_from : ℕ → ℕ → ℕ → ℕ → ℕ → ℕ
-count_from zero bits first at n = n
-count_from (suc more) bits first at n = if reads_back bits (rounded first n) (at - n) then n else count_from more bits first at (suc n)
+unfoldable pub count_from : ℕ → ℕ → ℕ → ℕ
+count_from zero bits n = n
+count_from (suc more) bits n = if reads_back bits (rounded (whole bits) n) (point bits - n) then n else count_from more bits (suc n)
 
 -- fewer digits may do only below the normal floats
 abbrev pub least_count : ℕ → ℕ
 least_count bits = if nat_lt bits (2 ^ 52) then 1 else 15
 
-unfoldable pub kept_count : ℕ → ℕ → ℕ → ℕ
-kept_count bits first at = count_from (17 - least_count bits) bits first at (least_count bits)
+unfoldable pub kept_count : ℕ → ℕ
+kept_count bits = count_from (17 - least_count bits) bits (least_count bits)
 
 -- The digits without the zeros at their end, of which each is one more for the power.
 unfoldable pub without_zeros : ℕ → ℕ → ℕ → ℕ × ℕ
@@ -92,10 +92,7 @@ unfoldable pub short_text : ℕ → ℕ → List ℕ
 short_text digits power = layout (decimal (without_zeros 17 digits power).0) (without_zeros 17 digits power).1
 
 unfoldable pub finite_text : ℕ → List ℕ
-finite_text bits =
-    let first = first_digits (whole bits) in
-    let count = kept_count bits first (point bits) in
-    short_text (rounded first count) (point bits - count)
+finite_text bits = short_text (rounded (whole bits) (kept_count bits)) (point bits - kept_count bits)
 
 -- of the bits without the sign
 unfoldable pub size_text : ℕ → List ℕ

@@ -1,2 +1,3 @@
 pub mod FloatText
+pub mod Leading
 pub mod Limbs

@@ -1,6 +1,6 @@
 //! A whole number of up to 128 limbs, which is multiplied in place.
 
-ghost use Rattle.std.specs.Prelude.{◌≡◌, ℕ, ◌+◌, ◌*◌, ◌/◌, ◌^◌, ◌<◌, ◌≤◌, length};
+ghost use Rattle.std.specs.Prelude.{◌≡◌, ℕ, ◌+◌, ◌*◌, ◌/◌, ◌^◌, ◌<◌, ◌≤◌, ◌==◌, length};
 ghost use Rattle.otel_float.specs.Limbs.{AreInUse, AreLimbs, limbs_value, value_of};
 
 pub(crate) const ROOM: usize = 128;
@@ -79,4 +79,15 @@ pub(crate) fn times_power(
         used = times(limbs, used, chunk);
     }
     times(limbs, used, power(base, count % step))
+}
+
+pub(crate) fn is_zero(limbs: &[u32]) -> bool
+    ensures { result ≡ (limbs_value limbs.now == 0) }
+{
+    for limb in limbs {
+        if *limb != 0 {
+            return false;
+        }
+    }
+    true
 }

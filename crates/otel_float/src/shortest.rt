@@ -2,8 +2,9 @@
 
 ghost use Rattle.std.specs.Prelude.{◌≡◌, ◌+◌, ◌-◌, ◌*◌, ◌^◌, ◌<◌, ◌≤◌};
 ghost use Rattle.otel_float.specs.FloatText as spec;
+ghost use Rattle.otel_float.specs.Leading.{IsLeading};
 
-use crate::decimal::NORMAL;
+use crate::decimal::{Leading, NORMAL};
 use std::num::f64_to_bits_with_nan;
 
 fn ten_to(count: usize) -> u64
@@ -18,12 +19,24 @@ fn ten_to(count: usize) -> u64
     power
 }
 
-pub(crate) fn rounded(first: u64, count: usize) -> u64
-    requires small { first < 10 ^ 18 }
-    requires few { count ≤ 17 }
-    ensures { result ≡ spec.rounded first count }
+// The first `count` digits, rounded: half of the last one's unit goes to the even digit.
+pub(crate) fn rounded(bits: u64, leading: Leading, count: usize) -> u64
+    requires leading { IsLeading bits leading }
+    requires few { (1 ≤ count) × (count ≤ 17) }
+    ensures { result ≡ spec.rounded (spec.whole bits) count }
 {
-    (first / ten_to(17 - count) + 5) / 10
+    let unit = ten_to(18 - count);
+    let kept = leading.digits / unit;
+    let rest = leading.digits % unit;
+    if rest < unit / 2 {
+        kept
+    } else if rest > unit / 2 {
+        kept + 1
+    } else if leading.is_exact {
+        kept + kept % 2
+    } else {
+        kept + 1
+    }
 }
 
 fn reads_back(bits: u64, digits: u64, power: usize) -> bool
@@ -40,15 +53,15 @@ fn least_count(bits: u64) -> usize
     if bits < NORMAL { 1 } else { 15 }
 }
 
-pub(crate) fn kept_count(bits: u64, first: u64, point: usize) -> usize
-    requires small { first < 10 ^ 18 }
-    requires near { point ≤ 2000 }
-    ensures value { result ≡ spec.kept_count bits first point }
+pub(crate) fn kept_count(bits: u64, leading: Leading) -> usize
+    requires { IsLeading bits leading }
+    ensures value { result ≡ spec.kept_count bits }
     ensures few { (1 ≤ result) × (result ≤ 17) }
 {
     let least = least_count(bits);
     for count in least..17 {
-        if reads_back(bits, rounded(first, count), point.saturating_sub(count)) {
+        let digits = rounded(bits, leading, count);
+        if reads_back(bits, digits, leading.point.saturating_sub(count)) {
             return count;
         }
     }

@@ -6,7 +6,7 @@ ghost use Rattle.fast_float.specs.Parse.{parse_float};
 ghost use Rattle.otel_float.specs.FloatText as spec;
 ghost use Rattle.ryu.specs.Plain.{IsPlainNumber};
 
-use crate::decimal::{INFINITY, digits_of};
+use crate::decimal::{INFINITY, leading_of};
 use crate::layout::push_layout;
 use crate::shortest::{kept_count, rounded, without_zeros};
 use std::marker::Model;
@@ -92,9 +92,12 @@ fn push_finite(out: &mut FloatText, bits: u64)
     requires finite { (0 < bits) × (bits < 2047 * 2 ^ 52) }
     ensures { out.new ≡ out.old ++ spec.finite_text bits }
 {
-    let (first, point) = digits_of(bits);
-    let count = kept_count(bits, first, point);
-    let (digits, power) = without_zeros(rounded(first, count), point.saturating_sub(count));
+    let leading = leading_of(bits);
+    let count = kept_count(bits, leading);
+    let (digits, power) = without_zeros(
+        rounded(bits, leading, count),
+        leading.point.saturating_sub(count),
+    );
     push_layout(out, digits, power)
 }
 

@@ -4,6 +4,6 @@ use Rattle.otel_float.proofs.shortest.kept_count.Given as goal
 
 abbrev pub invariant-loop-count : goal.invariant-loop-count
 invariant-loop-count l = record {
-  same : spec.count_from (17 - l.count) l.bits l.first l.point l.count ≡ spec.kept_count l.bits l.first l.point;
+  same : spec.count_from (17 - l.count) l.bits l.count ≡ spec.kept_count l.bits;
   some : 1 ≤ l.count;
 }
