@@ -1,5 +1,5 @@
 -- A decimal of 17 digits that is nearest to a float reads back as it.
-use Rattle.std.proofs.Common.{◌≡◌, ℕ, zero, suc, ◌+◌, ◌-◌, ◌*◌, ◌/◌, ◌%◌, ◌^◌, ◌<◌, ◌≤◌, refl, sym, ap, ◌∙◌, subst, inl, inr, arith, lt-ltb, lt_of_mul-lt-mul_right, mul-lt-mul_of_pos_right, mul-le-mul_right, mul-le-mul_left, mul-pos, pow-suc, pow-add, pow_pos, div-add-mod', mod-lt, div-one, le_trans, le_of_lt, lt_of_le_of_lt, not-le_of_lt, le-ltb, pow_mono, lit≤}
+use Rattle.std.proofs.Common.{◌≡◌, ℕ, zero, suc, ◌+◌, ◌-◌, ◌*◌, ◌/◌, ◌%◌, ◌^◌, ◌<◌, ◌≤◌, refl, sym, ap, ◌∙◌, subst, inl, inr, arith, lt-ltb, lt_of_mul-lt-mul_right, mul-lt-mul_of_pos_right, mul-le-mul_right, mul-le-mul_left, mul-pos, pow-suc, pow-add, pow_pos, le_trans, le_of_lt, lt_of_le_of_lt, not-le_of_lt, le-ltb, pow_mono, lit≤}
 use Rattle.std.proofs.lemmas.Bool.{cases_lt}
 use Rattle.std.proofs.lemmas.Nat.{mul-pow, mul-le}
 use native.Mathlib.Nat.{pow-le-pow_left, pow-le-pow_right}

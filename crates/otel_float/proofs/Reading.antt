@@ -1,10 +1,11 @@
 -- The digits that are kept read back, and so does their text.
-use Rattle.std.proofs.Common.{◌≡◌, ℕ, zero, suc, ◌+◌, ◌-◌, ◌*◌, ◌/◌, ◌%◌, ◌^◌, ◌<◌, ◌≤◌, ◌⊎◌, pos, negsuc, Bool, true, false, cond, List, [], ◌∷◌, ◌++◌, length, get_or, take, drop, replicate, slice_range, refl, sym, ap, ◌∙◌, subst, inl, inr, arith, mul-one, pow-suc, pow-add, mul-le-mul_left, mul-le-mul_right, lt-ltb, le-ltb, eqb-true, length-append, take_at, div-add-mod', mod-lt, div-one}
+use Rattle.std.proofs.Common.{◌≡◌, ℕ, zero, suc, ◌+◌, ◌-◌, ◌*◌, ◌/◌, ◌%◌, ◌^◌, ◌<◌, ◌≤◌, ◌⊎◌, pos, negsuc, Bool, true, false, cond, List, [], ◌∷◌, ◌++◌, length, get_or, take, drop, replicate, slice_range, refl, sym, ap, ◌∙◌, subst, inl, inr, arith, mul-one, pow-suc, pow-add, mul-le-mul_left, lt-ltb, le-ltb, eqb-true, length-append, length-take, length-drop, ltb, ltb-true, ltb-false, mul_assoc, take_at}
+use native.Mathlib.Nat.{pow-le-pow_right}
 use Rattle.std.specs.Prelude.{◌-ℤ◌}
 use Rattle.std.proofs.lemmas.Bool.{cases_lt, cases_Bool}
 use Rattle.std.proofs.lemmas.Fmt.{decimal_is_IsNumeral, decimal_nonempty, first_decimal, decimal_digit, decimal_step, length-decimal-le}
-use Rattle.std.proofs.lemmas.List.{get_or_at}
-use Rattle.std.specs.Fmt.{decimal}
+use Rattle.std.proofs.lemmas.List.{get_or_at, length-replicate}
+use Rattle.std.specs.Fmt.{decimal, sign_text}
 use Rattle.std.specs.Str.Parse.{digits_value, AllDigits}
 use lib.Ieee.{binary64, fits, round, of_bits, to_bits}
 use lib.Ieee.Bits.{of_bits-to_bits}
@@ -14,10 +15,10 @@ use Rattle.fast_float.proofs.ExactLemmas.{ten_to_pos}
 use Rattle.fast_float.proofs.Extremes.{round_tens}
 use Rattle.ryu.specs.Plain.{IsTextOf, HasDigits, EndsAboveZero}
 use Rattle.ryu.proofs.Texts.{whole_form, split_form, small_form, scientific_form}
-use Rattle.otel_float.specs.FloatText.{whole, places, digit_count, point, rounded, reads_back, count_from, kept_count, without_zeros, exponent_text, with_exponent, layout, short_text, finite_text}
-use Rattle.otel_float.proofs.Counting.{HasCount, has_count}
+use Rattle.otel_float.specs.FloatText.{whole, places, point, rounded, reads_back, count_from, kept_count, without_zeros, exponent_text, with_exponent, layout, short_text, finite_text}
+use Rattle.otel_float.proofs.Counting.{has_count}
 use Rattle.otel_float.proofs.Keeping.{count_here, count_on, count_none, zero_off, no_zero, no_more}
-use Rattle.otel_float.proofs.Near.{HasRoom, has_room, whole_some, seventeen, point_is}
+use Rattle.otel_float.proofs.Near.{has_room, whole_some, seventeen, point_is}
 use Rattle.otel_float.proofs.Rounding.{rounded_size}
 
 -- ---- what the test of the digits says
@@ -96,7 +97,7 @@ shorter : (bits digits power short at : ℕ) → IsTrimmed digits power short at
 shorter bits digits power short at trimmed near =
     let t = trimmed.zeros in
     let join : digits * 10 ^ (power - 400) ≡ short * 10 ^ (t + (power - 400)) =
-    ap (λ n. n * 10 ^ (power - 400)) (sym trimmed.same) ∙ Rattle.std.proofs.Common.mul_assoc short (10 ^ t) (10 ^ (power - 400)) ∙ ap (λ n. short * n) (sym (pow-add 10 t (power - 400))) in (
+    ap (λ n. n * 10 ^ (power - 400)) (sym trimmed.same) ∙ mul_assoc short (10 ^ t) (10 ^ (power - 400)) ∙ ap (λ n. short * n) (sym (pow-add 10 t (power - 400))) in (
       near.0 ∙ ap (λ n. round binary64 false n (10 ^ (400 - power))) join ∙ round_tens binary64 short (t + (power - 400)) (400 - power) (at - 400) (400 - at) (omega (arith, trimmed.moved)),
       near.1,
     )
@@ -139,20 +140,20 @@ module _ (ds : List ℕ) (q : ℕ) (short : AreShort ds) where
   long_part : length (slice_range (padded ds) 0 (length ds)) ≡ length ds
   long_part = ap length (part_is ds)
 
-  exponent_form : (negative : Bool) → size < 1000 → cond negative 0 size + (400 - q) ≡ q - 400 + (length ds - 1 + cond negative size 0) → cond negative 6 16 ≤ size → Rattle.std.proofs.Common.ltb end 401 ≡ negative
+  exponent_form : (negative : Bool) → size < 1000 → cond negative 0 size + (400 - q) ≡ q - 400 + (length ds - 1 + cond negative size 0) → cond negative 6 16 ≤ size → ltb end 401 ≡ negative
       → IsTextOf false 16 4 (with_exponent ds end) (digits_value 10 ds) q
   unfolding with_exponent exponent_text
   exponent_form true small places far is =
-      let more = Rattle.std.proofs.Common.ltb 1 (length ds) in
+      let more = ltb 1 (length ds) in
       rw is
       (subst (λ ts. IsTextOf false 16 4 ((take 1 ts ++ cond more (46 ∷ drop 1 ts) []) ++ 101 ∷ ((45 ∷ []) ++ decimal size)) (digits_value 10 ts) q) (part_is ds)
-      (scientific_form (padded ds) 0 (length ds) (has_digits ds short) false 16 4 q size more true small (λ e. omega (arith, long_part, Rattle.std.proofs.Common.ltb-true 1 (length ds) e)) (λ e. omega (arith, long_part, short.some, Rattle.std.proofs.Common.ltb-false 1 (length ds) e))
+      (scientific_form (padded ds) 0 (length ds) (has_digits ds short) false 16 4 q size more true small (λ e. omega (arith, long_part, ltb-true 1 (length ds) e)) (λ e. omega (arith, long_part, short.some, ltb-false 1 (length ds) e))
       (omega (arith, long_part, places)) far (ends ds short)))
   exponent_form false small places far is =
-      let more = Rattle.std.proofs.Common.ltb 1 (length ds) in
+      let more = ltb 1 (length ds) in
       rw is
       (subst (λ ts. IsTextOf false 16 4 ((take 1 ts ++ cond more (46 ∷ drop 1 ts) []) ++ 101 ∷ ([] ++ decimal size)) (digits_value 10 ts) q) (part_is ds)
-      (scientific_form (padded ds) 0 (length ds) (has_digits ds short) false 16 4 q size more false small (λ e. omega (arith, long_part, Rattle.std.proofs.Common.ltb-true 1 (length ds) e)) (λ e. omega (arith, long_part, short.some, Rattle.std.proofs.Common.ltb-false 1 (length ds) e))
+      (scientific_form (padded ds) 0 (length ds) (has_digits ds short) false 16 4 q size more false small (λ e. omega (arith, long_part, ltb-true 1 (length ds) e)) (λ e. omega (arith, long_part, short.some, ltb-false 1 (length ds) e))
       (omega (arith, long_part, places)) far (ends ds short)))
 
   far_down : end < 396 → IsTextOf false 16 4 (layout ds q) (digits_value 10 ds) q
@@ -197,6 +198,61 @@ module _ (ds : List ℕ) (q : ℕ) (short : AreShort ds) where
         ]
       ]
 
+-- ---- how long it is
+pub sign_short : (b : Bool) → length (sign_text b) ≤ 1
+sign_short true = omega arith
+sign_short false = omega arith
+
+point_short : (ds : List ℕ) (b : Bool) → 0 < length ds → length (cond b (46 ∷ drop 1 ds) []) ≤ length ds
+point_short ds true some = omega (arith, length-drop 1 ds)
+point_short ds false some = omega arith
+
+exponent_short : (end : ℕ) → end < 1400 → length (exponent_text end) ≤ 5
+unfolding exponent_text
+exponent_short end small =
+    let n = end - 401 + (401 - end) in
+    let few = length-decimal-le 3 n (omega arith) (omega arith) (omega arith) in
+    let sign = sign_text (ltb end 401) in
+    omega (arith, few, sign_short (ltb end 401), length-append sign (decimal n))
+
+with_exponent_short : (ds : List ℕ) (end : ℕ) → AreShort ds → end < 1400 → length (with_exponent ds end) ≤ 23
+unfolding with_exponent
+with_exponent_short ds end short small =
+    let rest = cond (ltb 1 (length ds)) (46 ∷ drop 1 ds) [] in
+    omega (
+      arith,
+      short.few,
+      length-append (take 1 ds ++ rest) (exponent_text end),
+      length-append (take 1 ds) rest,
+      length-take 1 ds,
+      point_short ds (ltb 1 (length ds)) short.some,
+      exponent_short end small,
+    )
+
+pub layout_short : (ds : List ℕ) (q : ℕ) → AreShort ds → q ≤ 800 → length (layout ds q) ≤ 23
+unfolding layout
+layout_short ds q short most =
+    let end = q + length ds in
+    let small : end < 1400 = omega (arith, short.few) in
+    elim (cases_lt end 396) [
+      | inl low ↦ rw (lt-ltb end 396 low) (with_exponent_short ds end short small)
+      | inr a ↦ elim (cases_lt 416 end) [
+        | inl high ↦ rw (le-ltb end 396 a, lt-ltb 416 end high) (with_exponent_short ds end short small)
+        | inr b ↦ elim (cases_lt end 401) [
+          | inl l ↦ rw (le-ltb end 396 a, le-ltb 416 end b, lt-ltb end 401 l) (omega (arith, short.few, length-append (replicate (400 - end) 48) ds, length-replicate {A = ℕ} (400 - end) 48))
+          | inr g ↦ elim (cases_lt q 400) [
+            | inl less ↦
+                let n = end - 400 in
+                rw (le-ltb end 396 a, le-ltb 416 end b, le-ltb end 401 g, lt-ltb q 400 less)
+                (omega (arith, short.few, length-append (take n ds) (46 ∷ drop n ds), length-take n ds, length-drop n ds))
+            | inr more ↦
+                rw (le-ltb end 396 a, le-ltb 416 end b, le-ltb end 401 g, le-ltb q 400 more)
+                (omega (arith, short.few, length-append (ds ++ replicate (q - 400) 48) (46 ∷ 48 ∷ []), length-append ds (replicate (q - 400) 48), length-replicate {A = ℕ} (q - 400) 48))
+          ]
+        ]
+      ]
+    ]
+
 -- ---- the digits of a number that does not end in 0
 last_digit : (n : ℕ) → n < 2 ^ 64 → 0 < n % 10 → 48 < get_or (decimal n) (length (decimal n) - 1) 0
 last_digit n fits some =
@@ -234,6 +290,7 @@ pub record IsTextFor (bits : ℕ) (text : List ℕ) : Type 0 where
   pub power : ℕ
   pub text_of : IsTextOf false 16 4 text digits power
   pub near : IsNearestBits binary64 (digits * 10 ^ (power - 400)) (10 ^ (400 - power)) bits
+  pub short : length text ≤ 23
 
 pub finite_is : (bits : ℕ) → 0 < bits → bits < 2047 * 2 ^ 52 → IsTextFor bits (finite_text bits)
 unfolding finite_text short_text
@@ -249,7 +306,7 @@ finite_is bits some finite =
     let d = rounded w r in
     let sizes = rounded_size w r c kept.some count in
     let ten : 0 < 10 = omega arith in
-    let most : 10 ^ r ≤ 10 ^ 17 = native.Mathlib.Nat.pow-le-pow_right ten kept.few in
+    let most : 10 ^ r ≤ 10 ^ 17 = pow-le-pow_right ten kept.few in
     let near : IsNearestBits binary64 (d * 10 ^ (at - r - 400)) (10 ^ (400 - (at - r))) bits =
     elim kept.says [
       | inl all ↦ subst (λ n. IsNearestBits binary64 (rounded w n * 10 ^ (at - n - 400)) (10 ^ (400 - (at - n))) bits) (sym all) (seventeen bits c some finite count)
@@ -266,6 +323,7 @@ finite_is bits some finite =
       power = power;
       text_of = subst (λ n. IsTextOf false 16 4 (layout (decimal short) power) n power) numeral.1 (laid_out (decimal short) power (are_short short below trimmed.last) upper);
       near = shorter bits d (at - r) short power trimmed near;
+      short = layout_short (decimal short) power (are_short short below trimmed.last) upper;
     }
   where
     zeros_few : (digits short t : ℕ) → short * 10 ^ t ≡ digits → 0 < digits → digits ≤ 10 ^ 17 → t ≤ 17
@@ -275,6 +333,6 @@ finite_is bits some finite =
           | inl l ↦ omega arith
           | inr g ↦
               let ten : 0 < 10 = omega arith in
-              let many : 10 ^ 18 ≤ 10 ^ t = native.Mathlib.Nat.pow-le-pow_right ten g in
+              let many : 10 ^ 18 ≤ 10 ^ t = pow-le-pow_right ten g in
               absurd (omega arith)
         ]

@@ -1,5 +1,6 @@
 -- A fraction rounded to the nearest whole number, and digits rounded from the first 18.
-use Rattle.std.proofs.Common.{◌≡◌, ℕ, zero, suc, ◌+◌, ◌-◌, ◌*◌, ◌/◌, ◌%◌, ◌^◌, ◌<◌, ◌≤◌, refl, sym, ap, ◌∙◌, subst, inl, inr, arith, lt-ltb, le-ltb, mul-le-mul_left, mul-le-mul_right, mul-pos, lt_of_mul-lt-mul_right, le_of_mul-le-mul_right, div-add-mod', mod-lt, pow-add, pow-suc}
+use Rattle.std.proofs.Common.{◌≡◌, ℕ, zero, suc, ◌+◌, ◌-◌, ◌*◌, ◌/◌, ◌%◌, ◌^◌, ◌<◌, ◌≤◌, sym, ap, ◌∙◌, inl, inr, arith, lt-ltb, le-ltb, mul-le-mul_left, mul-le-mul_right, lt_of_mul-lt-mul_right, le_of_mul-le-mul_right, div-add-mod', mod-lt, pow-suc}
+use native.Mathlib.Nat.{eq_of_mul-eq-mul_right}
 use Rattle.std.proofs.lemmas.Bool.{cases_lt}
 use Rattle.fast_float.proofs.ExactLemmas.{ten_to_pos}
 use Rattle.otel_float.specs.FloatText.{digit_count, nearest_even, rounded}
@@ -116,4 +117,4 @@ module _ (w t c u half first s q rest : ℕ) (split : w * 10 ^ 18 ≡ first * c 
   pub first_half : half ≡ rest → s ≡ 0 → nearest_even (w * t) c ≡ q + q % 2
   first_half h none =
       let at : 2 * (w * t) * u ≡ (2 * (q * c) + c) * u = omega (arith, scaled, ap (λ n. n * c) h, units) in
-      even_half (w * t) c q from below (native.Mathlib.Nat.eq_of_mul-eq-mul_right u positive (2 * (w * t)) (2 * (q * c) + c) at)
+      even_half (w * t) c q from below (eq_of_mul-eq-mul_right u positive (2 * (w * t)) (2 * (q * c) + c) at)

@@ -1,5 +1,5 @@
 -- The text of each float reads back.
-use Rattle.std.proofs.Common.{◌≡◌, ℕ, ◌*◌, ◌%◌, ◌^◌, Bool, true, false, not, List, [], ◌∷◌, ◌++◌, Some, refl, sym, ap, ◌∙◌, subst, inl, inr, arith, leb, ltb, T, lt-ltb, le-ltb, eq-eqb, ne_eqb, true≢false}
+use Rattle.std.proofs.Common.{◌≡◌, ℕ, ◌*◌, ◌%◌, ◌^◌, ◌≤◌, length, length-append, Bool, true, false, not, List, [], ◌∷◌, ◌++◌, Some, refl, sym, ap, ◌∙◌, subst, inl, inr, arith, leb, ltb, T, lt-ltb, le-ltb, eq-eqb, ne_eqb, true≢false}
 use Rattle.std.proofs.lemmas.Bool.{cases_Bool, cases_lt, cases_eq}
 use Rattle.std.specs.Fmt.{sign_text}
 use Rattle.std.specs.Float.{float_is_finite}
@@ -16,11 +16,12 @@ use Rattle.ryu.proofs.Plus.{without_plus}
 use Rattle.ryu.proofs.Signs.{parts, only_nan}
 use Rattle.ryu.proofs.Texts.{zero_text, nearest_is}
 use Rattle.otel_float.specs.FloatText.{finite_text, size_text, float_text}
-use Rattle.otel_float.proofs.Reading.{IsTextFor, finite_is}
+use Rattle.otel_float.proofs.Reading.{IsTextFor, finite_is, sign_short}
 
 pub record Reads (x : Float) (text : List ℕ) : Type 0 where
   pub parses : parse_float binary64 text ≡ Some x
   pub plain : float_is_finite x ≡ true → IsPlainNumber text
+  pub short : length text ≤ 24
 
 -- a sign before a text of the size
 signed : (x : Float) (negative : Bool) (bits : ℕ) (text : List ℕ) → IsSignAndSize binary64 x negative bits → IsTextFor bits text → Reads x (sign_text negative ++ text)
@@ -31,10 +32,11 @@ signed x negative bits text split has =
     record {
       parses = rw bytes (parse_float-text_of binary64 negative p t.2.well_formed t.2.whole ∙ ap Some (nearest_is binary64 x negative bits has.digits has.power p split has.near t.3));
       plain = λ _. (negative, p, bytes, t.2);
+      short = omega (arith, length-append (sign_text negative) text, sign_short negative, has.short);
     }
 
 zero_is : IsTextFor 0 (48 ∷ 46 ∷ 48 ∷ [])
-zero_is = record { digits = 0; power = 400; text_of = zero_text false 16 4; near = nearest_of_zero binary64 0 1 (omega arith) refl }
+zero_is = record { digits = 0; power = 400; text_of = zero_text false 16 4; near = nearest_of_zero binary64 0 1 (omega arith) refl; short = omega arith }
 
 infinity_reads : (negative : Bool) → parse_float binary64 (sign_text negative ++ 105 ∷ 110 ∷ 102 ∷ []) ≡ Some (inf negative)
 unfolding read_float scan
@@ -61,7 +63,7 @@ infinity_is x false split = sym (infinite binary64) ∙ split.same
 infinite_is : (x : Float) (negative : Bool) → IsSignAndSize binary64 x negative (2047 * 2 ^ 52) → Reads x (sign_text negative ++ 105 ∷ 110 ∷ 102 ∷ [])
 infinite_is x negative split =
     let e = infinity_is x negative split in
-    record { parses = infinity_reads negative ∙ ap Some e; plain = λ h. absurd (true≢false (sym h ∙ sym (ap float_is_finite e) ∙ not_finite negative)) }
+    record { parses = infinity_reads negative ∙ ap Some e; plain = λ h. absurd (true≢false (sym h ∙ sym (ap float_is_finite e) ∙ not_finite negative)); short = omega (arith, length-append (sign_text negative) (105 ∷ 110 ∷ 102 ∷ []), sign_short negative) }
 
 sized : (x : Float) (negative : Bool) (bits : ℕ) → IsSignAndSize binary64 x negative bits → Reads x (sign_text negative ++ size_text bits)
 unfolding size_text
@@ -89,7 +91,7 @@ reads x h =
     elim (cases_Bool (is_nan x)) [
       | inl none ↦
           let e = only_nan x (ap not none) in
-          rw (nan_test x h ∙ none) (record { parses = nan_reads ∙ ap Some e; plain = λ f. absurd (true≢false (sym f ∙ sym (ap float_is_finite e) ∙ nan_not_finite)) })
+          rw (nan_test x h ∙ none) (record { parses = nan_reads ∙ ap Some e; plain = λ f. absurd (true≢false (sym f ∙ sym (ap float_is_finite e) ∙ nan_not_finite)); short = omega arith })
       | inr some ↦
           rw (nan_test x h ∙ some) (sized x (leb (2 ^ 63) bits) (bits % 2 ^ 63) (parts binary64 x bits (of_bits-to_bits binary64 x h) (to_bits-lt binary64 x h) (number (is_nan x) some)))
     ]

@@ -40,7 +40,10 @@ point bits = 400 + digit_count (whole bits) - places bits
 
 -- the whole number nearest to a / b, and of two the even one
 unfoldable pub nearest_even : ℕ → ℕ → ℕ
-nearest_even a b = if nat_lt (2 * (a % b)) b then a / b else (if nat_lt b (2 * (a % b)) then a / b + 1 else a / b + a / b % 2)
+nearest_even a b =
+    if nat_lt (2 * (a % b)) b then a / b
+    else (if nat_lt b (2 * (a % b)) then a / b + 1
+    else a / b + a / b % 2)
 
 -- w with its first n digits alone, rounded, and with zeros after them where it has fewer
 abbrev pub rounded : ℕ → ℕ → ℕ
@@ -48,12 +51,14 @@ rounded w n = nearest_even (w * 10 ^ n) (10 ^ digit_count w)
 
 -- the float nearest to digits * 10 ^ (power - 400) has these bits
 unfoldable pub reads_back : ℕ → ℕ → ℕ → Bool
-reads_back bits digits power = to_bits binary64 (nearest_to_decimal binary64 false digits (pos power -ℤ pos 400)) == bits
+reads_back bits digits power =
+    to_bits binary64 (nearest_to_decimal binary64 false digits (pos power -ℤ pos 400)) == bits
 
 -- the first count from n on at which the digits read back, and n + more where none before it does
 unfoldable pub count_from : ℕ → ℕ → ℕ → ℕ
 count_from zero bits n = n
-count_from (suc more) bits n = if reads_back bits (rounded (whole bits) n) (point bits - n) then n else count_from more bits (suc n)
+count_from (suc more) bits n =
+    if reads_back bits (rounded (whole bits) n) (point bits - n) then n else count_from more bits (suc n)
 
 -- fewer digits may do only below the normal floats
 abbrev pub least_count : ℕ → ℕ
@@ -65,7 +70,8 @@ kept_count bits = count_from (17 - least_count bits) bits (least_count bits)
 -- The digits without the zeros at their end, of which each is one more for the power.
 unfoldable pub without_zeros : ℕ → ℕ → ℕ → ℕ × ℕ
 without_zeros zero digits power = (digits, power)
-without_zeros (suc most) digits power = if digits % 10 == 0 then without_zeros most (digits / 10) (power + 1) else (digits, power)
+without_zeros (suc most) digits power =
+    if digits % 10 == 0 then without_zeros most (digits / 10) (power + 1) else (digits, power)
 
 -- ---- the layout of digits * 10 ^ (power - 400)
 
@@ -75,9 +81,11 @@ exponent_text end = 101 ∷ (sign_text (nat_lt end 401) ++ decimal (end - 401 + 
 
 -- `1e30`, `1.5e-7`
 unfoldable pub with_exponent : List ℕ → ℕ → List ℕ
-with_exponent digits end = take 1 digits ++ (if nat_lt 1 (length digits) then 46 ∷ drop 1 digits else []) ++ exponent_text end
+with_exponent digits end =
+    take 1 digits ++ (if nat_lt 1 (length digits) then 46 ∷ drop 1 digits else []) ++ exponent_text end
 
--- From 0.00001 on and below 10 ^ 16 there is no exponent: `0.001`, `120.0`, `12.5`. Of the digits `end - 400` stand before the point.
+-- From 0.00001 on and below 10 ^ 16 there is no exponent: `0.001`, `120.0`, `12.5`. Of the digits `end - 400` stand
+-- before the point.
 unfoldable pub layout : List ℕ → ℕ → List ℕ
 layout digits power =
     let end = power + length digits in
@@ -96,10 +104,13 @@ finite_text bits = short_text (rounded (whole bits) (kept_count bits)) (point bi
 
 -- of the bits without the sign
 unfoldable pub size_text : ℕ → List ℕ
-size_text bits = if bits == 0 then codes "0.0" else (if nat_lt bits (2047 * 2 ^ 52) then finite_text bits else codes "inf")
+size_text bits =
+    if bits == 0 then codes "0.0"
+    else (if nat_lt bits (2047 * 2 ^ 52) then finite_text bits else codes "inf")
 
 -- NaN, the infinities and the zeros are `NaN`, `inf`, `-inf`, `0.0` and `-0.0`.
 unfoldable pub float_text : Float → List ℕ
 float_text x =
     let bits = to_bits binary64 x in
-    if nat_lt (2047 * 2 ^ 52) (bits % 2 ^ 63) then codes "NaN" else sign_text (nat_le (2 ^ 63) bits) ++ size_text (bits % 2 ^ 63)
+    if nat_lt (2047 * 2 ^ 52) (bits % 2 ^ 63) then codes "NaN"
+    else sign_text (nat_le (2 ^ 63) bits) ++ size_text (bits % 2 ^ 63)

@@ -17,7 +17,7 @@ const ROOM: usize = 64;
 
 const SIGN: u64 = 1 << 63;
 
-/// The text of a float, which takes no memory.
+/// The text of a float, at most 24 bytes that it holds itself.
 pub struct FloatText {
     bytes: [u8; ROOM],
     len: usize,
@@ -38,11 +38,12 @@ impl Drop for FloatText {
 }
 
 impl FloatText {
-    /// `0.1`, `1e300`, `-0.0`, `NaN`, `-inf`.
+    /// Writes a float: `0.1`, `3.0`, `1e300`, `5e-324`, `-0.0`, and `NaN`, `inf` and `-inf` as Rust does.
     pub fn new(x: f64) -> FloatText
         ensures text { result ≡ spec.float_text x }
         ensures parses { parse_float binary64 result ≡ Some x }
         ensures number { IsTrue (float_is_finite x) → IsPlainNumber result }
+        ensures short { length result ≤ 24 }
     {
         let bits = f64_to_bits_with_nan(x);
         let mut out = FloatText::empty();
@@ -57,8 +58,10 @@ impl FloatText {
         out
     }
 
+    /// The text, of ASCII alone.
     pub fn as_str(&self) -> &str
-        ensures { result.now ≡ self.now }
+        ensures text { result.now ≡ self.now }
+        ensures ascii { IsAscii result.now }
     {
         match str::from_utf8(&self.bytes[..self.len]) {
             Ok(text) => text,

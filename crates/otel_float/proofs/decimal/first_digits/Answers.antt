@@ -1,4 +1,4 @@
-use Rattle.std.proofs.Common.{◌≡◌, ℕ, ◌+◌, ◌-◌, ◌*◌, ◌/◌, ◌%◌, ◌^◌, ◌<◌, ◌≤◌, Bool, eqb, ◌&&◌, List, length, get_or, take, refl, sym, ap, ◌∙◌, arith, length-take}
+use Rattle.std.proofs.Common.{◌≡◌, ℕ, ◌+◌, ◌-◌, ◌*◌, ◌/◌, ◌%◌, ◌^◌, ◌<◌, ◌≤◌, Bool, eqb, ◌&&◌, List, get_or, take, refl, sym, ap, ◌∙◌, arith}
 use Rattle.otel_float.specs.FloatText.{digit_count}
 use Rattle.otel_float.specs.Leading.{first_digits, is_exact}
 use Rattle.otel_float.specs.Limbs.{AreInUse, AreLimbs, limbs_value, value_of}

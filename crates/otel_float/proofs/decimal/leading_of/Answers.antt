@@ -1,6 +1,5 @@
-use Rattle.std.proofs.Common.{◌≡◌, ℕ, ◌+◌, ◌-◌, ◌*◌, ◌^◌, ◌<◌, ◌≤◌, ap, ◌∙◌, arith}
+use Rattle.std.proofs.Common.{◌≡◌, ℕ, ◌+◌, ◌-◌, ◌*◌, ◌^◌, ap, ◌∙◌, arith}
 use Rattle.otel_float.specs.FloatText as float
-use Rattle.otel_float.specs.Leading as spec
 use Rattle.otel_float.proofs.decimal.leading_of.Goals as goal
 
 -- the powers that were multiplied in

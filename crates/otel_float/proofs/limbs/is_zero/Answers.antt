@@ -1,4 +1,4 @@
-use Rattle.std.proofs.Common.{◌≡◌, ℕ, ◌<◌, ◌≤◌, sym, arith, eq-eqb, ne_eqb}
+use Rattle.std.proofs.Common.{sym, arith, eq-eqb, ne_eqb}
 use Rattle.otel_float.specs.Limbs.{limbs_value}
 use Rattle.otel_float.proofs.LimbsLemmas.{value_zero, value_some}
 use Rattle.otel_float.proofs.limbs.is_zero.Goals as goal

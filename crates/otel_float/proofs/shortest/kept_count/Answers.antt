@@ -1,4 +1,4 @@
-use Rattle.std.proofs.Common.{◌≡◌, ℕ, ◌+◌, ◌-◌, ◌<◌, ◌≤◌, suc, Bool, true, false, sym, ap, ◌∙◌, arith}
+use Rattle.std.proofs.Common.{◌≡◌, ℕ, ◌+◌, ◌-◌, ◌<◌, suc, Bool, true, false, sym, ap, ◌∙◌, arith}
 use Rattle.otel_float.specs.FloatText as spec
 use Rattle.otel_float.proofs.Keeping.{count_here, count_on, count_none}
 use Rattle.otel_float.proofs.shortest.kept_count.Goals as goal

@@ -1,4 +1,4 @@
-use Rattle.std.proofs.Common.{◌≡◌, ℕ, ◌*◌, ◌%◌, ◌^◌, ◌<◌, ◌≤◌, true, List, ◌++◌, Some, T, sym, ap, ◌∙◌, subst, lt-ltb, le-ltb, le-leb}
+use Rattle.std.proofs.Common.{◌≡◌, ℕ, ◌*◌, ◌%◌, ◌^◌, ◌<◌, ◌≤◌, true, List, length, ◌++◌, Some, T, sym, ap, ◌∙◌, subst, lt-ltb, le-ltb, le-leb}
 use Rattle.std.specs.Bool.{passes}
 use Rattle.std.specs.Fmt.{sign_text}
 use Rattle.std.specs.Prelude.{codes}
@@ -57,3 +57,12 @@ returns-clause-parses c = parsed c.args.x c.push_size.new.out (passes _ c.well_f
 
 pub returns-clause-number : goal.returns-clause-number
 returns-clause-number c = numbered c.args.x c.push_size.new.out (passes _ c.well_formed.0.1) (returns-clause-text c)
+
+brief : (x : Float) (text : List ℕ) → T (fits binary64 x) → text ≡ spec.float_text x → length text ≤ 24
+brief x text fits e = subst (λ (t : List ℕ). length t ≤ 24) (sym e) (reads x fits).short
+
+pub returns-then-bits-gt-INFINITY-clause-short : goal.returns-then-bits-gt-INFINITY-clause-short
+returns-then-bits-gt-INFINITY-clause-short c = brief c.args.x c.push.new.self (passes _ c.well_formed.0.1) (returns-then-bits-gt-INFINITY-clause-text c)
+
+pub returns-clause-short : goal.returns-clause-short
+returns-clause-short c = brief c.args.x c.push_size.new.out (passes _ c.well_formed.0.1) (returns-clause-text c)
