@@ -7,7 +7,7 @@ pub(crate) const ROOM: usize = 128;
 
 pub(crate) const BASE: u64 = 1_000_000_000;
 
-pub(crate) fn power(base: u64, count: usize) -> u64
+fn power(base: u64, count: usize) -> u64
     requires base { 1 < base }
     requires small { base ^ count ≤ 10 ^ 9 }
     ensures { result ≡ base ^ count }
@@ -73,6 +73,9 @@ pub(crate) fn times_power(
     ensures in_use { AreInUse limbs.new result }
     ensures len { result ≤ len + count / step + 1 }
 {
+    if count == 0 {
+        return len;
+    }
     let chunk = power(base, step);
     let mut used = len;
     for _turn in 0..count / step {

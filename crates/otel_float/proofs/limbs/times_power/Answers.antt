@@ -58,3 +58,6 @@ returns-clause-value c =
     let t = c.times.ensures in
     t.value ∙ ap (λ n. value_of c.loop-turn.limbs c.loop-turn.used * n) c.power.ensures ∙ ap (λ n. n * c.args.base ^ (c.args.count % c.args.step)) v.value
     ∙ joined _ c.args.base c.args.step c.args.count c.loop-turn._turn (omega arith)
+
+pub returns-then-count-eq0-clause-value : goal.returns-then-count-eq0-clause-value
+returns-then-count-eq0-clause-value c = rw (c.if-count-eq0.true, pow-zero c.args.base) (sym (mul-one _))
