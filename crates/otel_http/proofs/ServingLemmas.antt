@@ -27,7 +27,7 @@ use Rattle.http.specs.Request.{head_of}
 use Rattle.http_server.specs.declared.response.Response.{Response}
 use Rattle.otel_http.specs.declared.traced.TheConstants.{FIRST_FAILURE}
 use Rattle.otel_http.specs.RequestSpans.{IsServerBuilder, IsServerSpan, attribute_edits}
-use Rattle.otel_http.specs.Serving.{Serving, ServesIn, TracedState}
+use Rattle.otel_http.specs.Serving.{Serving, ServesIn, TracedState, url_scheme}
 use Rattle.otel_http.specs.Telling.{SpanStays}
 use Rattle.otel_http.proofs.TellingLemmas.{here_stays, stays_through}
 
@@ -185,7 +185,7 @@ module _ {P S G C T : Type 0} (calls : Ghosts P) (sampler : sampling.Ghosts S) (
           → IfSome (settled failed span).recorded (IsServerSpan cx)
       started_for started span failed edited =
           started_as calls sampler ids tells cx started.begun served.placed served.inside.entered span failed
-          (asked_kind old.scheme old.keeps_query (head_of request) served.asked started.begun served.asks
+          (asked_kind (url_scheme old.is_https) old.keeps_query (head_of request) served.asked started.begun served.asks
           started.is_asked)
           (ap (λ (here : Current). here.cx) served.places.is) started.starts edited
 

@@ -1,5 +1,5 @@
 -- A request served inside a server's span of a scope, and what is said of the service that serves it.
-use Rattle.std.specs.Prelude.{◌≡◌, ◌⊎◌, ℕ, Bool, List, [], Option, None, Result, Ok, Err, IfSome, is_ok, is_some, nat_le, if◌then◌else◌}
+use Rattle.std.specs.Prelude.{◌≡◌, ◌⊎◌, ℕ, Bool, false, true, List, [], Option, None, Result, Ok, Err, IfSome, codes, is_ok, is_some, nat_le, if◌then◌else◌}
 use Rattle.std.specs.declared.alloc.AllocError.{AllocError}
 use Rattle.http.specs.declared.request.Request.{Request}
 use Rattle.http.specs.Request.{head_of}
@@ -29,10 +29,15 @@ Responds (Err _) given response = IsResponse 500 [] [] response
 pub record TracedState (V S : Type 0) : Type 0 where
   pub service : V
   pub scope : S
-  pub scheme : List ℕ
+  pub is_https : Bool
   pub keeps_query : Bool
   pub untraced : ℕ
   pub unfinished : ℕ
+
+-- the scheme of requests whose target names none
+abbrev pub url_scheme : Bool → List ℕ
+url_scheme true = codes "https"
+url_scheme false = codes "http"
 
 -- a count, and one more unless that is so
 abbrev pub counted_unless : Bool → ℕ → ℕ
@@ -75,7 +80,7 @@ module _ {V S : Type 0} (scopes : Ghosts S) (serves : Serving V S) where
   pub record ServesIn (cx : PlainContext) (old : TracedState V S) (request : Request (List ℕ)) (response : Response)
       (new : TracedState V S) : Type 0 where
     pub asked : Option PlainSpanBuilder
-    pub asks : IfSome asked (IsServerBuilder old.scheme old.keeps_query (head_of request))
+    pub asks : IfSome asked (IsServerBuilder (url_scheme old.is_https) old.keeps_query (head_of request))
     pub placed : S
     pub places : Becomes scopes.current scopes.with_current (record (scopes.current old.scope) { cx = cx }) old.scope
         placed

@@ -1,10 +1,10 @@
 //! A service around a traced one: it serves each request inside a span of its own.
 
-ghost use Rattle.std.specs.Prelude.{◌≡◌, false, true, IfOk, IfSome, IsOk, OnErr, OnOk, codes};
+ghost use Rattle.std.specs.Prelude.{◌≡◌, false, true, IfOk, IfSome, IsOk, OnErr, OnOk};
 ghost use Rattle.http.specs.Request.{head_of};
 ghost use Rattle.http_server.specs.Response.{IsBlank};
 ghost use Rattle.otel_http.specs.RequestSpans.{IsServerBuilder};
-ghost use Rattle.otel_http.specs.Serving.{ServesIn, ServesInside, ServesOnce, TracesRequest, counted_unless};
+ghost use Rattle.otel_http.specs.Serving.{ServesIn, ServesInside, ServesOnce, TracesRequest, counted_unless, url_scheme};
 
 use crate::TracedService;
 use crate::conventions::{method_name, server_attributes};
@@ -26,7 +26,7 @@ const FIRST_FAILURE: u16 = 500;
 pub struct Traced<V, S> {
     service: V,
     scope: S,
-    scheme: &'static str,
+    is_https: bool,
     keeps_query: bool,
     untraced: u64,
     unfinished: u64,
@@ -40,7 +40,7 @@ impl<V, S> Model for Traced<V, S> {
     ghost view = { λ traced. record {
       service = traced.service;
       scope = traced.scope;
-      scheme = traced.scheme.now;
+      is_https = traced.is_https;
       keeps_query = traced.keeps_query;
       untraced = traced.untraced;
       unfinished = traced.unfinished;
@@ -56,7 +56,7 @@ impl<V, S> Traced<V, S> {
         ensures { result ≡ record {
           service = service;
           scope = scope;
-          scheme = codes "http";
+          is_https = false;
           keeps_query = false;
           untraced = 0;
           unfinished = 0;
@@ -65,18 +65,18 @@ impl<V, S> Traced<V, S> {
         Traced {
             service,
             scope,
-            scheme: "http",
+            is_https: false,
             keeps_query: false,
             untraced: 0,
             unfinished: 0,
         }
     }
 
-    /// The same for requests of another scheme, as `https`. One whose target names its scheme is of that one.
-    pub fn with_url_scheme(mut self, scheme: &'static str) -> Traced<V, S>
-        ensures { result ≡ record self { scheme = scheme.now } }
+    /// The same for requests of `https`. One whose target names its scheme is of that one.
+    pub fn with_https(mut self) -> Traced<V, S>
+        ensures { result ≡ record self { is_https = true } }
     {
-        self.scheme = scheme;
+        self.is_https = true;
         self
     }
 
@@ -95,7 +95,7 @@ impl<V, S> Traced<V, S> {
         let Traced {
             service,
             scope,
-            scheme: _,
+            is_https: _,
             keeps_query: _,
             untraced: _,
             unfinished: _,
@@ -162,7 +162,7 @@ impl<V: TracedService<S>, S: HoldsSpans> Traced<V, S> {
         requires { IsBlank response.old }
         ensures { ServesIn S.HoldsSpans V.serves cx self.old request.now response.new self.new }
     {
-        let asked = server_builder(self.scope.alloc(), request, self.scheme, self.keeps_query);
+        let asked = server_builder(self.scope.alloc(), request, self.is_https, self.keeps_query);
         let outside = self.scope.replace_context(cx);
         self.serve_inside(request, asked, response);
         let _inside = self.scope.replace_context(outside);
@@ -188,6 +188,13 @@ impl<V: TracedService<S>, S: HoldsSpans> Traced<V, S> {
     }
 }
 
+/// The scheme of requests whose target names none.
+fn url_scheme(is_https: bool) -> &'static str
+    ensures { result.now ≡ url_scheme is_https }
+{
+    if is_https { "https" } else { "http" }
+}
+
 /// A count, and one more unless that holds.
 fn counted_unless(count: u64, holds: bool) -> u64
     ensures { result ≡ counted_unless holds count }
@@ -203,12 +210,12 @@ fn counted_unless(count: u64, holds: bool) -> u64
 fn server_builder(
     alloc: Global,
     request: &Request<Bytes>,
-    scheme: &'static str,
+    is_https: bool,
     keeps_query: bool,
 ) -> Option<SpanBuilder>
-    ensures { IfSome result (IsServerBuilder scheme.now keeps_query (head_of request.now)) }
+    ensures { IfSome result (IsServerBuilder (url_scheme is_https) keeps_query (head_of request.now)) }
 {
-    match server_span(alloc, request, scheme, keeps_query) {
+    match server_span(alloc, request, url_scheme(is_https), keeps_query) {
         Ok(builder) => Some(builder),
         Err(_) => None,
     }
@@ -218,7 +225,7 @@ fn server_builder(
 fn server_span(
     alloc: Global,
     request: &Request<Bytes>,
-    scheme: &'static str,
+    scheme: &str,
     keeps_query: bool,
 ) -> Result<SpanBuilder, AllocError>
     ensures { IfOk result (IsServerBuilder scheme.now keeps_query (head_of request.now)) }
