@@ -1,8 +1,9 @@
 -- What contracts see of the values: numbers, lists, and texts as their bytes. A plain value lies nowhere in memory.
 use Rattle.std.specs.Prelude.{ℕ, ℤ, Bool, List, [], Option, None}
+use Rattle.std.specs.Float.Ieee.{Float}
 use Rattle.opentelemetry.specs.Baggage.{PlainBaggage}
 
--- a value of an attribute: a truth value, an integer, a text, or a list of one of these
+-- a value of an attribute: a truth value, an integer, a text, a float, or a list of one of these
 pub data PlainValue : Type 0 where
   boolean : Bool → PlainValue
   integer : ℤ → PlainValue
@@ -10,6 +11,8 @@ pub data PlainValue : Type 0 where
   booleans : List Bool → PlainValue
   integers : List ℤ → PlainValue
   texts : List (List ℕ) → PlainValue
+  double : Float → PlainValue
+  doubles : List Float → PlainValue
 
 -- a key and its value
 pub record PlainKeyValue : Type 0 where

@@ -2,7 +2,7 @@
 use Rattle.std.specs.Prelude.{ℕ, List, [], Option, Some, None, map, string_bytes, String, Vec}
 use Rattle.std.specs.Arc.{arc_value}
 use Rattle.std.specs.declared.sync.Arc.{Arc}
-use Rattle.opentelemetry.specs.Plain.{PlainValue, boolean, integer, text, booleans, integers, texts}
+use Rattle.opentelemetry.specs.Plain.{PlainValue, boolean, integer, text, booleans, integers, texts, double, doubles}
 use Rattle.opentelemetry.specs.Plain.{PlainStatus, unset, error, ok}
 use Rattle.opentelemetry.specs.declared.common.Array.{Array}
 use Rattle.opentelemetry.specs.declared.common.Array.TheVariants as arrays
@@ -16,6 +16,7 @@ abbrev pub plain_array : Array → PlainValue
 plain_array (arrays.Bool a) = booleans a.items
 plain_array (arrays.I64 a) = integers a.items
 plain_array (arrays.String a) = texts (map (λ t. string_bytes t) a.items)
+plain_array (arrays.F64 a) = doubles a.items
 
 -- a value without where it lies
 abbrev pub plain_value : Value → PlainValue
@@ -23,6 +24,7 @@ plain_value (values.Bool b) = boolean b
 plain_value (values.I64 n) = integer n
 plain_value (values.String t) = text (string_bytes t)
 plain_value (values.Array a) = plain_array a
+plain_value (values.F64 x) = double x
 
 -- a value without a text and without a list: a copy takes no memory
 abbrev pub IsScalar : PlainValue → Type 0
@@ -32,6 +34,8 @@ IsScalar (text t) = ⊥
 IsScalar (booleans bs) = ⊥
 IsScalar (integers ns) = ⊥
 IsScalar (texts ts) = ⊥
+IsScalar (double x) = Unit {0}
+IsScalar (doubles xs) = ⊥
 
 -- a status without a description: a copy takes no memory
 abbrev pub IsBare : PlainStatus → Type 0

@@ -9,7 +9,8 @@ use Rattle.std.specs.Ordering.{int_eq}
 use Rattle.std.proofs.Common.{ap, sym}
 use Rattle.std.proofs.lemmas.Bool.Decides.{same_from_decides, Decides-eqb, Decides-int_eq}
 use Rattle.std.proofs.lemmas.Bool.Decides.{Decides-like, Decides-and}
-use Rattle.opentelemetry.specs.Plain.{PlainValue, boolean, integer, text, booleans, integers, texts}
+use Rattle.std.specs.Float.Ieee.{Float, nan, inf, fin}
+use Rattle.opentelemetry.specs.Plain.{PlainValue, boolean, integer, text, booleans, integers, texts, double, doubles}
 use Rattle.opentelemetry.specs.Plain.{PlainKeyValue, PlainSpanContext, PlainStatus, unset, error, ok}
 
 -- a test that is true exactly at equal values is an equivalence
@@ -47,6 +48,23 @@ same_truth_decides true false = (λ h. cc, λ e. cc)
 same_truth_decides false true = (λ h. cc, λ e. cc)
 same_truth_decides false false = (λ _. refl, λ _. refl)
 
+-- whether two floats are the same: of zeros the sign counts, and there is one NaN
+abbrev pub same_float : Float → Float → Bool
+same_float nan nan = true
+same_float (inf s) (inf t) = beq s t
+same_float (fin s m e) (fin t n d) = beq s t && ((m == n) && int_eq e d)
+same_float _ _ = false
+
+pub same_float_decides : (a b : Float) → Decides (same_float a b) (a ≡ b)
+same_float_decides nan nan = (λ _. refl, λ _. refl)
+same_float_decides (inf s) (inf t) = Decides-like (beq s t) (ap inf) (λ e. cc) (same_truth_decides s t)
+same_float_decides (fin s m e) (fin t n d) =
+    Decides-like (same_float (fin s m e) (fin t n d))
+    (λ q. λ i. fin (q.0 i) (q.1.0 i) (q.1.1 i))
+    (λ q. (cc, (cc, cc)))
+    (Decides-and _ _ (same_truth_decides s t) (Decides-and _ _ (Decides-eqb m n) (Decides-int_eq e d)))
+same_float_decides _ _ = (λ h. cc, λ e. cc)
+
 -- whether two values of attributes are the same
 abbrev pub same_value : PlainValue → PlainValue → Bool
 same_value (boolean a) (boolean b) = beq a b
@@ -55,6 +73,8 @@ same_value (text a) (text b) = same_text a b
 same_value (booleans a) (booleans b) = pointwise beq a b
 same_value (integers a) (integers b) = pointwise int_eq a b
 same_value (texts a) (texts b) = pointwise same_text a b
+same_value (double a) (double b) = same_float a b
+same_value (doubles a) (doubles b) = pointwise same_float a b
 same_value _ _ = false
 
 pub same_value_decides : (a b : PlainValue) → Decides (same_value a b) (a ≡ b)
@@ -67,6 +87,9 @@ same_value_decides (integers a) (integers b) =
     Decides-like (pointwise int_eq a b) (ap integers) (λ e. cc) (pointwise_decides Decides-int_eq a b)
 same_value_decides (texts a) (texts b) =
     Decides-like (pointwise same_text a b) (ap texts) (λ e. cc) (pointwise_decides same_text_decides a b)
+same_value_decides (double a) (double b) = Decides-like (same_float a b) (ap double) (λ e. cc) (same_float_decides a b)
+same_value_decides (doubles a) (doubles b) =
+    Decides-like (pointwise same_float a b) (ap doubles) (λ e. cc) (pointwise_decides same_float_decides a b)
 same_value_decides _ _ = (λ h. cc, λ e. cc)
 
 -- whether two attributes are the same

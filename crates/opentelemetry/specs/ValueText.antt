@@ -1,8 +1,9 @@
--- The text of a value: `true` or `false`, the decimal, the text itself, or a list between brackets.
+-- The text of a value: `true` or `false`, the decimal, the text itself, that of a float, or a list between brackets.
 use Rattle.std.specs.Prelude.{ℕ, Bool, List, [], ◌∷◌, ◌++◌, map, codes, if◌then◌else◌}
 use Rattle.std.specs.Fmt.{signed_decimal}
 use Rattle.std.specs.List.{join_with_byte}
-use Rattle.opentelemetry.specs.Plain.{PlainValue, boolean, integer, text, booleans, integers, texts}
+use Rattle.otel_float.specs.FloatText.{float_text}
+use Rattle.opentelemetry.specs.Plain.{PlainValue, boolean, integer, text, booleans, integers, texts, double, doubles}
 
 -- a truth value in words
 abbrev pub truth_text : Bool → List ℕ
@@ -24,3 +25,5 @@ value_text (text t) = t
 value_text (booleans bs) = list_text (map truth_text bs)
 value_text (integers ns) = list_text (map signed_decimal ns)
 value_text (texts ts) = list_text (map quoted_text ts)
+value_text (double x) = float_text x
+value_text (doubles xs) = list_text (map float_text xs)

@@ -5,9 +5,11 @@ ghost use Rattle.std.specs.Prelude.{◌≡◌};
 ghost use Rattle.opentelemetry.specs.PlainValues.{plain_value};
 
 mod display;
+mod float;
 mod key;
 mod scope;
 
+use float::{same_float, same_floats};
 pub use key::Key;
 pub use scope::{InstrumentationScope, InstrumentationScopeBuilder};
 use std::alloc::AllocError;
@@ -19,6 +21,7 @@ pub enum Array {
     Bool(Vec<bool>),
     I64(Vec<i64>),
     String(Vec<String>),
+    F64(Vec<f64>),
 }
 
 impl Clone for Array {
@@ -32,6 +35,7 @@ impl Clone for Array {
             Array::Bool(items) => Ok(Array::Bool(items.clone()?)),
             Array::I64(items) => Ok(Array::I64(items.clone()?)),
             Array::String(items) => Ok(Array::String(items.clone()?)),
+            Array::F64(items) => Ok(Array::F64(items.clone()?)),
         }
     }
 }
@@ -53,6 +57,7 @@ impl PartialEq for Array {
             (Array::Bool(these), Array::Bool(those)) => these == those,
             (Array::I64(these), Array::I64(those)) => these == those,
             (Array::String(these), Array::String(those)) => these == those,
+            (Array::F64(these), Array::F64(those)) => same_floats(these, those),
             _ => false,
         }
     }
@@ -73,6 +78,7 @@ pub enum Value {
     I64(i64),
     String(String),
     Array(Array),
+    F64(f64),
 }
 
 impl Clone for Value {
@@ -89,6 +95,7 @@ impl Clone for Value {
             Value::I64(number) => Ok(Value::I64(*number)),
             Value::String(text) => Ok(Value::String(text.clone()?)),
             Value::Array(array) => Ok(Value::Array(array.clone()?)),
+            Value::F64(number) => Ok(Value::F64(*number)),
         }
     }
 }
@@ -111,6 +118,7 @@ impl PartialEq for Value {
             (Value::I64(this), Value::I64(that)) => this == that,
             (Value::String(this), Value::String(that)) => this == that,
             (Value::Array(this), Value::Array(that)) => this == that,
+            (Value::F64(this), Value::F64(that)) => same_float(*this, *that),
             _ => false,
         }
     }

@@ -2,7 +2,7 @@
 -- counts characters.
 use Rattle.std.specs.Prelude.{ℕ, List, Option, Some, None, map, take}
 use Rattle.std.specs.Str.{chars, encode_utf8_all}
-use Rattle.opentelemetry.specs.Plain.{PlainKeyValue, PlainValue, boolean, integer, text, booleans, integers, texts}
+use Rattle.opentelemetry.specs.Plain.{PlainKeyValue, PlainValue, boolean, integer, text, booleans, integers, texts, double, doubles}
 use Rattle.otel_sampling.specs.declared.trace.span_limit.SpanLimits.{SpanLimits}
 
 -- the beginning of a text that has its first characters, at most so many of them
@@ -17,6 +17,8 @@ cut_value count (text bytes) = text (first_chars count bytes)
 cut_value count (booleans bs) = booleans bs
 cut_value count (integers ns) = integers ns
 cut_value count (texts list) = texts (map (first_chars count) list)
+cut_value count (double x) = double x
+cut_value count (doubles xs) = doubles xs
 
 -- the same where there is a limit
 abbrev pub value_under : Option ℕ → PlainValue → PlainValue

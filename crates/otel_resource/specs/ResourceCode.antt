@@ -3,12 +3,14 @@ use Rattle.std.proofs.Common.{inl, inr, refl}
 use Rattle.std.specs.Prelude.{◌≡◌, ℕ, ℤ, Bool, ◌⊎◌, List}
 use Rattle.std.specs.Coded.{Coded, code_by, coded_ℕ, coded_ℤ, coded_bool, coded_list, coded×, coded⊎}
 use Rattle.std.specs.FinMap.{code}
-use Rattle.opentelemetry.specs.Plain.{PlainValue, boolean, integer, text, booleans, integers, texts}
+use Rattle.std.specs.Float.Ieee.{Float}
+use base.Stored.{coded_float}
+use Rattle.opentelemetry.specs.Plain.{PlainValue, boolean, integer, text, booleans, integers, texts, double, doubles}
 use Rattle.otel_resource.specs.Resource.{Attributes, PlainResource}
 
 -- the kinds of a value, one beside the other
 abbrev pub Kinds : Type 0
-Kinds = Bool ⊎ (ℤ ⊎ (List ℕ ⊎ (List Bool ⊎ (List ℤ ⊎ List (List ℕ)))))
+Kinds = Bool ⊎ (ℤ ⊎ (List ℕ ⊎ (List Bool ⊎ (List ℤ ⊎ (List (List ℕ) ⊎ (Float ⊎ List Float))))))
 
 -- a value as one of its kind
 abbrev pub kind_of : PlainValue → Kinds
@@ -17,7 +19,9 @@ kind_of (integer n) = inr (inl n)
 kind_of (text t) = inr (inr (inl t))
 kind_of (booleans bs) = inr (inr (inr (inl bs)))
 kind_of (integers ns) = inr (inr (inr (inr (inl ns))))
-kind_of (texts ts) = inr (inr (inr (inr (inr ts))))
+kind_of (texts ts) = inr (inr (inr (inr (inr (inl ts)))))
+kind_of (double x) = inr (inr (inr (inr (inr (inr (inl x))))))
+kind_of (doubles xs) = inr (inr (inr (inr (inr (inr (inr xs))))))
 
 -- the value of a kind
 abbrev pub of_kind : Kinds → PlainValue
@@ -26,7 +30,9 @@ of_kind (inr (inl n)) = integer n
 of_kind (inr (inr (inl t))) = text t
 of_kind (inr (inr (inr (inl bs)))) = booleans bs
 of_kind (inr (inr (inr (inr (inl ns))))) = integers ns
-of_kind (inr (inr (inr (inr (inr ts))))) = texts ts
+of_kind (inr (inr (inr (inr (inr (inl ts)))))) = texts ts
+of_kind (inr (inr (inr (inr (inr (inr (inl x))))))) = double x
+of_kind (inr (inr (inr (inr (inr (inr (inr xs))))))) = doubles xs
 
 -- no value is lost; it stands here since the code of a value is made of it
 pub of_kind-kind_of : (v : PlainValue) → of_kind (kind_of v) ≡ v
@@ -36,12 +42,15 @@ of_kind-kind_of (text t) = refl
 of_kind-kind_of (booleans bs) = refl
 of_kind-kind_of (integers ns) = refl
 of_kind-kind_of (texts ts) = refl
+of_kind-kind_of (double x) = refl
+of_kind-kind_of (doubles xs) = refl
 
 -- how the kinds are stored
 abbrev pub kinds_code : Coded Kinds
 kinds_code =
     coded⊎ coded_bool (coded⊎ coded_ℤ (coded⊎ (coded_list coded_ℕ)
-    (coded⊎ (coded_list coded_bool) (coded⊎ (coded_list coded_ℤ) (coded_list (coded_list coded_ℕ))))))
+    (coded⊎ (coded_list coded_bool) (coded⊎ (coded_list coded_ℤ) (coded⊎ (coded_list (coded_list coded_ℕ))
+    (coded⊎ coded_float (coded_list coded_float)))))))
 
 -- how a value is stored
 abbrev pub value_code : Coded PlainValue

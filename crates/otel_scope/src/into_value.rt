@@ -58,6 +58,16 @@ impl IntoValue for bool {
     }
 }
 
+impl IntoValue for f64 {
+    ghost use Rattle.opentelemetry.specs.Plain.{double};
+
+    ghost value = { double };
+
+    fn into_value(self, _alloc: Global) -> Result<Value, AllocError> {
+        Ok(Value::F64(self))
+    }
+}
+
 impl IntoValue for Array {
     ghost use Rattle.opentelemetry.specs.PlainValues.{plain_array};
 

@@ -1,5 +1,5 @@
-//! The text of a value: `true` or `false`, the decimal, the text itself, and a list as `[a,b]` with its texts between
-//! double quotes, unescaped.
+//! The text of a value: `true` or `false`, the decimal, the text itself, that of a float, and a list as `[a,b]` with its
+//! texts between double quotes, unescaped.
 
 ghost use Rattle.std.specs.Prelude.{ℕ, List, ◌∷◌, map, if◌then◌else◌, nat_lt};
 ghost use Rattle.std.specs.Fmt.{WritesOnOk};
@@ -7,6 +7,7 @@ ghost use Rattle.opentelemetry.specs.PlainValues.{plain_array};
 ghost use Rattle.opentelemetry.specs.ValueText.{list_text, truth_text, value_text};
 
 use super::{Array, Value};
+use otel_float::FloatText;
 use std::fmt;
 
 /// What a list of values holds.
@@ -40,6 +41,16 @@ impl ListItem for i64 {
     fn write_item<W: fmt::Write>(&self, f: &mut fmt::Formatter<W>) -> fmt::Result {
         let number = *self;
         write!(f, "{number}")
+    }
+}
+
+impl ListItem for f64 {
+    ghost use Rattle.otel_float.specs.FloatText.{float_text};
+
+    ghost item_text = { float_text };
+
+    fn write_item<W: fmt::Write>(&self, f: &mut fmt::Formatter<W>) -> fmt::Result {
+        f.write_str(FloatText::new(*self).as_str())
     }
 }
 
@@ -90,6 +101,7 @@ fn write_array<W: fmt::Write>(array: &Array, f: &mut fmt::Formatter<W>) -> fmt::
         Array::Bool(items) => write_list(items.as_slice(), f),
         Array::I64(items) => write_list(items.as_slice(), f),
         Array::String(items) => write_list(items.as_slice(), f),
+        Array::F64(items) => write_list(items.as_slice(), f),
     }
 }
 
@@ -106,6 +118,7 @@ impl fmt::Display for Value {
             Value::I64(number) => number.write_item(f),
             Value::String(text) => f.write_str(text.as_str()),
             Value::Array(array) => write_array(array, f),
+            Value::F64(number) => number.write_item(f),
         }
     }
 }
