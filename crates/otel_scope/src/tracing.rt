@@ -197,7 +197,8 @@ impl<P: SpanProcessor, S: ShouldSample, G: GivesIds, C: Now, T: TextMapPropagato
 
     ghost with_current = { λ scope here. record scope { current = here } };
 
-    ghost tells = { λ old moment new. C.tells old.clock moment new.clock × (new ≡ record old { clock = new.clock }) };
+    ghost tells = { λ old moment new. C.tells old.clock moment new.clock
+        × (new ≡ record old { clock = new.clock }) };
 
     ghost enters = { Enters P.SpanProcessor S.ShouldSample G.GivesIds C.tells };
 
