@@ -1,10 +1,11 @@
 -- A text has one first field, so what stands after it is determined.
 use Rattle.std.proofs.Common.{◌≡◌, ◌≢◌, ℕ, ℤ, Bool, true, List, [], ◌∷◌, ◌++◌, Option, None, Some, All, IsUtf8, codes, get_or, refl, sym, ap, subst, ◌∙◌, arith, rules}
+use Rattle.std.specs.Float.{Float}
 use Rattle.std.proofs.lemmas.List.Elements.{All-tail, All-from_recursion}
-use Rattle.otel_trace_lines.specs.Commands.{PlainCommand, plain_command, start, child, remote, attr, event, status, inject, end, flush, run, shutdown, set_int, set_bool, link, exception, event_with, has_more}
+use Rattle.otel_trace_lines.specs.Commands.{PlainCommand, plain_command, start, child, remote, attr, event, status, inject, end, flush, run, shutdown, set_int, set_bool, set_float, link, exception, event_with, has_more}
 use Rattle.opentelemetry.specs.Plain.{PlainStatus, unset, error, ok}
 use Rattle.otel_trace_lines.specs.declared.command.Command.{Command}
-use Rattle.otel_trace_lines.specs.Lines.{IsDecimal64, IsField, IsStatus, LineForm, start_form, field, last_field, time, outcome, rest_of_line, whole, truth, instant, IsOfForm, form_of, word_of}
+use Rattle.otel_trace_lines.specs.Lines.{IsDecimal64, IsField, IsStatus, LineForm, start_form, field, last_field, time, outcome, rest_of_line, whole, truth, float, instant, IsOfForm, form_of, word_of}
 use Rattle.otel_trace_lines.specs.Found.{LineGives, HasFields, AreFields, AreFieldsIn, IsCommand, FieldsGive, FieldsGiveIn, WordGives}
 use Rattle.opentelemetry.specs.declared.trace.span_kind.SpanKind.{SpanKind}
 use Rattle.std.specs.Option.{is_some}
@@ -99,6 +100,10 @@ only_int fields none _ h = search rules
 pub only_bool : (fields : List ℕ) → ((s k : List ℕ) (b : Bool) → IsOfForm fields (field s (field k (truth b))) → ⊥) → (command : PlainCommand) → HasFields (codes "bool") fields (form_of command) → ⊥
 only_bool fields none (set_bool s k b) h = none s k b h.1
 only_bool fields none _ h = search rules
+
+pub only_float : (fields : List ℕ) → ((s k : List ℕ) (x : Float) → IsOfForm fields (field s (field k (float x))) → ⊥) → (command : PlainCommand) → HasFields (codes "float") fields (form_of command) → ⊥
+only_float fields none (set_float s k x) h = none s k x h.1
+only_float fields none _ h = search rules
 
 pub only_link : (fields : List ℕ) → ((s t : List ℕ) → IsOfForm fields (field s (last_field t)) → ⊥) → (command : PlainCommand) → HasFields (codes "link") fields (form_of command) → ⊥
 only_link fields none (link s t) h = none s t h.1

@@ -1,10 +1,12 @@
 -- A line reads as one command at most, so a text spells one list of commands and has one first bad line or none.
 use Rattle.std.proofs.Common.{◌≡◌, ◌≢◌, ℕ, ℤ, Bool, true, false, List, [], ◌∷◌, ◌++◌, length, suc, cond, eqb, get_or, Option, Some, None, refl, sym, ap, ◌∙◌, arith, rules}
+use Rattle.std.specs.Float.{Float, binary64}
+use Rattle.std.specs.Float.Parse.{parse_float}
 use Rattle.std.specs.Str.Lines.{lines}
 use Rattle.std.specs.Str.Parse.{digits_value}
 use Rattle.opentelemetry.specs.Plain.{PlainStatus, unset, error, ok}
-use Rattle.otel_trace_lines.specs.Commands.{PlainCommand, start, child, remote, attr, event, status, inject, end, flush, run, shutdown, set_int, set_bool, link, exception, event_with, forget}
-use Rattle.otel_trace_lines.specs.Lines.{IsDecimal64, IsStatus, LineForm, field, last_field, time, outcome, rest_of_line, whole, truth, instant, sort, start_form, kind_word, IsInteger64, IsTruth, IsOfForm, form_of, Reads, IsBad, Spell, TextSpells}
+use Rattle.otel_trace_lines.specs.Commands.{PlainCommand, start, child, remote, attr, event, status, inject, end, flush, run, shutdown, set_int, set_bool, set_float, link, exception, event_with, forget}
+use Rattle.otel_trace_lines.specs.Lines.{IsDecimal64, IsStatus, LineForm, field, last_field, time, outcome, rest_of_line, whole, truth, float, instant, sort, start_form, kind_word, IsInteger64, IsTruth, IsOfForm, form_of, Reads, IsBad, Spell, TextSpells}
 use Rattle.otel_trace_lines.specs.Dialects.{without_comments}
 use Rattle.otel_trace_lines.specs.declared.dialect.Dialect.{Dialect}
 use Rattle.otel_trace_lines.proofs.FieldLemmas.{same_field, no_last_field, moment_alone}
@@ -34,6 +36,9 @@ same_truth text true false f g = cc
 same_truth text false true f g = cc
 same_truth text false false f g = refl
 
+same_float_read : (text : List ℕ) (value other : Float) → parse_float binary64 text ≡ Some value → parse_float binary64 text ≡ Some other → value ≡ other
+same_float_read text value other f g = let same : Some value ≡ Some other = sym f ∙ g in cc
+
 -- a word is that of one kind: its second letter says which
 kind_by : List ℕ → SpanKind
 kind_by word =
@@ -62,6 +67,7 @@ AreOneForm (outcome how) (outcome other) = how ≡ other
 AreOneForm (rest_of_line rest) (rest_of_line other) = rest ≡ other
 AreOneForm (whole number) (whole other) = number ≡ other
 AreOneForm (truth value) (truth other) = value ≡ other
+AreOneForm (float value) (float other) = value ≡ other
 AreOneForm (instant moment after) (instant other more) = (moment ≡ other) × AreOneForm after more
 AreOneForm (time moment) (instant other more) = ⊥
 AreOneForm (instant moment after) (time other) = ⊥
@@ -81,6 +87,7 @@ forms_agree text (outcome how) (outcome other) f g = same_status text how other 
 forms_agree text (rest_of_line rest) (rest_of_line other) f g = sym f ∙ g
 forms_agree text (whole number) (whole other) f g = same_integer text number other f g
 forms_agree text (truth value) (truth other) f g = same_truth text value other f g
+forms_agree text (float value) (float other) f g = same_float_read text value other f g
 forms_agree text (instant moment after) (instant other more) f g =
     let same = same_field text f.0 f.3.0 g.0 g.3.0 f.1 g.1 f.3.1 g.3.1 in
     (same_moment f.0 g.0 moment other f.2 g.2 same.0, forms_agree g.3.0 after more (rw (← same.1) f.3.2) g.3.2)
@@ -124,6 +131,8 @@ same_command (set_int s k n) (set_int s' k' n') h = cc
 same_command (set_int s k n) _ h = search rules
 same_command (set_bool s k b) (set_bool s' k' b') h = cc
 same_command (set_bool s k b) _ h = search rules
+same_command (set_float s k x) (set_float s' k' x') h = cc
+same_command (set_float s k x) _ h = search rules
 same_command (link s t) (link s' t') h = cc
 same_command (link s t) _ h = search rules
 same_command (exception s k m t) (exception s' k' m' t') h = cc

@@ -1,5 +1,6 @@
 -- Commands as contracts see them: numbers, and texts as their bytes.
 use Rattle.std.specs.Prelude.{ℕ, ℤ, Bool, true, false, List, Option, is_some, map, string_bytes}
+use Rattle.std.specs.Float.{Float}
 use Rattle.opentelemetry.specs.Plain.{PlainStatus}
 use Rattle.opentelemetry.specs.PlainValues.{plain_status}
 use Rattle.opentelemetry.specs.declared.trace.span_kind.SpanKind.{SpanKind}
@@ -32,6 +33,7 @@ pub data PlainCommand : Type 0 where
   -- the span's text, the key, the value
   set_int : List ℕ → List ℕ → ℤ → PlainCommand
   set_bool : List ℕ → List ℕ → Bool → PlainCommand
+  set_float : List ℕ → List ℕ → Float → PlainCommand
   -- the span's text, the text of the span that it points to
   link : List ℕ → List ℕ → PlainCommand
   -- the span's text, the name of the error's type, the moment at which it was met, its message
@@ -58,6 +60,7 @@ plain_command (commands.Run moment) = run moment.0
 plain_command commands.Shutdown = shutdown
 plain_command (commands.Int span key value) = set_int (string_bytes span) (string_bytes key) value
 plain_command (commands.Bool span key value) = set_bool (string_bytes span) (string_bytes key) value
+plain_command (commands.Float span key value) = set_float (string_bytes span) (string_bytes key) value
 plain_command (commands.Link span target) = link (string_bytes span) (string_bytes target)
 plain_command (commands.Exception span kind moment message) =
     exception (string_bytes span) (string_bytes kind) moment.0 (string_bytes message)

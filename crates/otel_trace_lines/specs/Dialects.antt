@@ -5,8 +5,8 @@ use Rattle.otel_trace_lines.specs.declared.dialect.Dialect.TheVariants as dialec
 
 -- the words of the commands that only the extended grammar has
 abbrev pub IsOfExtended : List ℕ → Type 0
-IsOfExtended word = (word ≡ codes "int") ⊎ ((word ≡ codes "bool")
-    ⊎ ((word ≡ codes "link") ⊎ ((word ≡ codes "exception") ⊎ (word ≡ codes "forget"))))
+IsOfExtended word = (word ≡ codes "int") ⊎ ((word ≡ codes "bool") ⊎ ((word ≡ codes "float")
+    ⊎ ((word ≡ codes "link") ⊎ ((word ≡ codes "exception") ⊎ (word ≡ codes "forget")))))
 
 -- whether a grammar has the commands of a word
 abbrev pub HasWord : Dialect → List ℕ → Type 0

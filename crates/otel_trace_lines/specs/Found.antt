@@ -1,5 +1,7 @@
 -- What is found where a line is read: in the line, after its word, and where a part of it is to stand.
 use Rattle.std.specs.Prelude.{◌≡◌, ℤ, ℕ, Bool, List, Option, Some, None}
+use Rattle.std.specs.Float.{Float, binary64}
+use Rattle.std.specs.Float.Parse.{parse_float}
 use Rattle.opentelemetry.specs.declared.trace.span_kind.SpanKind.{SpanKind}
 use Rattle.opentelemetry.specs.declared.trace.status.Status.{Status}
 use Rattle.opentelemetry.specs.Plain.{PlainStatus}
@@ -68,6 +70,11 @@ IntegerGives text (Some number) = IsInteger64 text number
 abbrev pub TruthGives : List ℕ → Option Bool → Type 0
 TruthGives text None = (value : Bool) → IsTruth text value → ⊥
 TruthGives text (Some value) = IsTruth text value
+
+-- what is found where a float is to stand
+abbrev pub FloatGives : List ℕ → Option Float → Type 0
+FloatGives text None = (value : Float) → parse_float binary64 text ≡ Some value → ⊥
+FloatGives text (Some value) = parse_float binary64 text ≡ Some value
 
 -- what is found where a kind is to stand
 abbrev pub KindGives : List ℕ → Option SpanKind → Type 0

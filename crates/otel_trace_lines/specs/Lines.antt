@@ -6,11 +6,14 @@ use Rattle.std.specs.Option.{option_map}
 use Rattle.std.specs.Str.Lines.{lines}
 use Rattle.std.specs.Str.Parse.{IsNumeral, digits_value, signed_digits_value, without_leading_sign}
 use Rattle.std.specs.Int.{w64}
+use Rattle.std.specs.Float.{Float, binary64}
+use Rattle.std.specs.Float.Parse.{parse_float}
 use Rattle.opentelemetry.specs.declared.trace.span_kind.SpanKind.{SpanKind}
 use Rattle.opentelemetry.specs.declared.trace.span_kind.SpanKind.TheVariants as kinds
 use Rattle.opentelemetry.specs.Plain.{PlainStatus, unset, error, ok}
 use Rattle.otel_trace_lines.specs.Commands.{PlainCommand, start, child, remote, attr, event, status, inject, end, flush}
-use Rattle.otel_trace_lines.specs.Commands.{run, shutdown, set_int, set_bool, link, exception, event_with, forget, has_more}
+use Rattle.otel_trace_lines.specs.Commands.{run, shutdown, set_int, set_bool, set_float, link, exception}
+use Rattle.otel_trace_lines.specs.Commands.{event_with, forget, has_more}
 use Rattle.otel_trace_lines.specs.Dialects.{HasWord, MayHave, without_comments}
 use Rattle.otel_trace_lines.specs.declared.dialect.Dialect.{Dialect}
 
@@ -62,6 +65,8 @@ pub data LineForm : Type 0 where
   whole : ℤ → LineForm
   -- a truth value
   truth : Bool → LineForm
+  -- a float, in a text that reads as it
+  float : Float → LineForm
   -- a moment, a space, and what stands after it
   instant : ℕ → LineForm → LineForm
   -- the word of a kind
@@ -77,6 +82,7 @@ IsOfForm text (outcome how) = IsStatus text how
 IsOfForm text (rest_of_line rest) = text ≡ rest
 IsOfForm text (whole number) = IsInteger64 text number
 IsOfForm text (truth value) = IsTruth text value
+IsOfForm text (float value) = parse_float binary64 text ≡ Some value
 IsOfForm text (instant moment after) = (digits : List ℕ) × IsField digits × IsDecimal64 digits moment
     × ((rest : List ℕ) × (text ≡ digits ++ 32 ∷ rest) × IsOfForm rest after)
 IsOfForm text (sort kind) = text ≡ kind_word kind
@@ -107,6 +113,7 @@ form_of (run moment) = field (codes "run") (time moment)
 form_of shutdown = last_field (codes "shutdown")
 form_of (set_int span key value) = field (codes "int") (field span (field key (whole value)))
 form_of (set_bool span key value) = field (codes "bool") (field span (field key (truth value)))
+form_of (set_float span key value) = field (codes "float") (field span (field key (float value)))
 form_of (link span target) = field (codes "link") (field span (last_field target))
 form_of (exception span kind moment message) =
     field (codes "exception") (field span (field kind (instant moment (rest_of_line message))))

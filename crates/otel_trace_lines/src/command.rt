@@ -80,6 +80,12 @@ pub enum Command {
         key: String,
         value: bool,
     },
+    /// Set an attribute whose value is a float.
+    Float {
+        span: String,
+        key: String,
+        value: f64,
+    },
     /// Add a link to the span of another name, without attributes.
     Link {
         span: String,

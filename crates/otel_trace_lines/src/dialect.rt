@@ -8,8 +8,8 @@ ghost use Rattle.otel_trace_lines.specs.Dialects.{HasWord, IsOfExtended, without
 #[derive(Clone, Copy, Debug, PartialEq, Eq)]
 pub enum Dialect {
     Plain,
-    /// With comments, lines that begin with `#`, and with the commands `int`, `bool`, `link`, `exception` and `forget`.
-    /// A start may end in the kind of its span, and an event in an attribute.
+    /// With comments, lines that begin with `#`, and with the commands `int`, `bool`, `float`, `link`, `exception` and
+    /// `forget`. A start may end in the kind of its span, and an event in an attribute.
     Extended,
 }
 
@@ -42,5 +42,8 @@ impl Dialect {
 fn is_of_extended(word: &str) -> bool
     ensures { IsTrue result ↔ IsOfExtended word.now }
 {
-    matches!(word, "int" | "bool" | "link" | "exception" | "forget")
+    matches!(
+        word,
+        "int" | "bool" | "float" | "link" | "exception" | "forget"
+    )
 }

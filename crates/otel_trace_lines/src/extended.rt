@@ -5,7 +5,8 @@ ghost use Rattle.otel_trace_lines.specs.Found.{AreFields, FieldsGive};
 
 use crate::command::Command;
 use crate::fields::{
-    first_field, is_field, moment_and_rest, parse_integer, truth_of, two_fields_and_rest,
+    first_field, is_field, moment_and_rest, parse_float, parse_integer, truth_of,
+    two_fields_and_rest,
 };
 use std::alloc::{AllocError, Global};
 
@@ -39,6 +40,24 @@ pub(crate) fn bool_of(alloc: Global, fields: &str) -> Result<Option<Command>, Al
         return Ok(None);
     };
     Ok(Some(Command::Bool {
+        span: String::from_str(alloc, span)?,
+        key: String::from_str(alloc, key)?,
+        value,
+    }))
+}
+
+/// The fields of `float SPAN KEY FLOAT`.
+pub(crate) fn float_of(alloc: Global, fields: &str) -> Result<Option<Command>, AllocError>
+    ensures found { IfOk result (FieldsGive (codes "float") fields.now) }
+    ensures free { ¬ AreFields (codes "float") fields.now → IsOk result }
+{
+    let Some((span, key, number)) = two_fields_and_rest(fields) else {
+        return Ok(None);
+    };
+    let Some(value) = parse_float(number) else {
+        return Ok(None);
+    };
+    Ok(Some(Command::Float {
         span: String::from_str(alloc, span)?,
         key: String::from_str(alloc, key)?,
         value,

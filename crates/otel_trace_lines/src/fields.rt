@@ -3,7 +3,8 @@
 ghost use Rattle.std.specs.Prelude.{◌≡◌, ◌≢◌, ℕ, ◌<◌, All, List, slice_index, take, [], ◌∷◌, ◌++◌, length, Option, None, Some, IfOk, IsOk, IsTrue, ◌↔◌, MatchOption, codes, position, ◌==◌, is_some, true};
 ghost use Rattle.std.specs.Str.Lines.{lines as lines_of, strip_carriage_return};
 ghost use Rattle.otel_trace_lines.specs.Dialects.{MayHave};
-ghost use Rattle.otel_trace_lines.specs.Found.{IntegerGives, KindGives, SpellsStatus, StatusGives, TruthGives};
+ghost use Rattle.otel_trace_lines.specs.Found.{FloatGives, IntegerGives, KindGives, SpellsStatus};
+ghost use Rattle.otel_trace_lines.specs.Found.{StatusGives, TruthGives};
 ghost use Rattle.otel_trace_lines.specs.Lines.{
   IsField,
   IsDecimal64,
@@ -224,6 +225,13 @@ pub(crate) fn truth_of(text: &str) -> Option<bool>
         "false" => Some(false),
         _ => None,
     }
+}
+
+/// The float nearest to the number that a text writes, which may be `inf` or `nan`; none where it writes none.
+pub(crate) fn parse_float(text: &str) -> Option<f64>
+    ensures { FloatGives text.now result }
+{
+    text.parse::<f64>().ok()
 }
 
 /// The first line of a text, without what ends it, and the text after it; none where the text is empty.

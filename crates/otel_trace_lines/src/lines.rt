@@ -17,7 +17,7 @@ ghost use Rattle.otel_trace_lines.specs.Lines.{SpellsNothing, TextSpells, field}
 
 use crate::command::Command;
 use crate::dialect::Dialect;
-use crate::extended::{bool_of, exception_of, forget_of, int_of, link_of};
+use crate::extended::{bool_of, exception_of, float_of, forget_of, int_of, link_of};
 use crate::fields::{
     field_and_moment, first_field, first_line, is_field, moment_and_attribute, moment_and_kind,
     moment_of, read_status, three_fields_and_rest, two_fields_and_rest,
@@ -135,6 +135,7 @@ fn other_with_fields(alloc: Global, word: &str, fields: &str) -> Result<Option<C
         "run" => Ok(run_of(fields)),
         "int" => int_of(alloc, fields),
         "bool" => bool_of(alloc, fields),
+        "float" => float_of(alloc, fields),
         "link" => link_of(alloc, fields),
         "exception" => exception_of(alloc, fields),
         "forget" => forget_of(alloc, fields),

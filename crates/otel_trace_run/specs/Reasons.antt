@@ -26,6 +26,7 @@ reason_text reasons.End = codes "end wants a span and a moment"
 reason_text reasons.Run = codes "run wants a moment"
 reason_text reasons.Int = codes "int wants a span, a key and an integer of 64 bits"
 reason_text reasons.Bool = codes "bool wants a span, a key, and true or false"
+reason_text reasons.Float = codes "float wants a span, a key and a number, maybe with a point and an exponent"
 reason_text reasons.Link = codes "link wants a span, and the span that it points to"
 reason_text reasons.Exception = codes "exception wants a span, a type, a moment and a text"
 reason_text reasons.Forget = codes "forget wants a span"
@@ -95,14 +96,15 @@ ExplainsWord word reasons.End = word ≡ codes "end"
 ExplainsWord word reasons.Run = word ≡ codes "run"
 ExplainsWord word reasons.Int = word ≡ codes "int"
 ExplainsWord word reasons.Bool = word ≡ codes "bool"
+ExplainsWord word reasons.Float = word ≡ codes "float"
 ExplainsWord word reasons.Link = word ≡ codes "link"
 ExplainsWord word reasons.Exception = word ≡ codes "exception"
 ExplainsWord word reasons.Forget = word ≡ codes "forget"
 ExplainsWord word reasons.NoCommand = (word ≢ codes "start") × (word ≢ codes "child") × (word ≢ codes "remote")
     × (word ≢ codes "attr") × (word ≢ codes "event") × (word ≢ codes "status") × (word ≢ codes "inject")
     × (word ≢ codes "end") × (word ≢ codes "run") × (word ≢ codes "flush") × (word ≢ codes "shutdown")
-    × (word ≢ codes "int") × (word ≢ codes "bool") × (word ≢ codes "link") × (word ≢ codes "exception")
-    × (word ≢ codes "forget")
+    × (word ≢ codes "int") × (word ≢ codes "bool") × (word ≢ codes "float") × (word ≢ codes "link")
+    × (word ≢ codes "exception") × (word ≢ codes "forget")
 ExplainsWord word reasons.FieldTooMany = (word ≡ codes "flush") ⊎ (word ≡ codes "shutdown")
 ExplainsWord word _ = ⊥
 

@@ -28,6 +28,7 @@ pub enum Reason {
     Run,
     Int,
     Bool,
+    Float,
     Link,
     Exception,
     Forget,
@@ -59,6 +60,7 @@ pub(crate) fn text_of(reason: Reason) -> &'static str
         Reason::Run => "run wants a moment",
         Reason::Int => "int wants a span, a key and an integer of 64 bits",
         Reason::Bool => "bool wants a span, a key, and true or false",
+        Reason::Float => "float wants a span, a key and a number, maybe with a point and an exponent",
         Reason::Link => "link wants a span, and the span that it points to",
         Reason::Exception => "exception wants a span, a type, a moment and a text",
         Reason::Forget => "forget wants a span",
@@ -125,6 +127,7 @@ fn reason_of_word(word: &str) -> Reason
         "run" => Reason::Run,
         "int" => Reason::Int,
         "bool" => Reason::Bool,
+        "float" => Reason::Float,
         "link" => Reason::Link,
         "exception" => Reason::Exception,
         "forget" => Reason::Forget,
@@ -145,7 +148,9 @@ fn reason_after(word: &str, fields: &str) -> Reason
         Reason::Child | Reason::Remote => reason_before_moment_and_more(fields, 3, wants),
         Reason::Inject | Reason::Forget | Reason::FieldTooMany => reason_of_last(fields, wants),
         Reason::Status | Reason::Link => reason_before_text(fields, 1, wants),
-        Reason::Attr | Reason::Int | Reason::Bool => reason_before_text(fields, 2, wants),
+        Reason::Attr | Reason::Int | Reason::Bool | Reason::Float => {
+            reason_before_text(fields, 2, wants)
+        }
         Reason::Exception => reason_before_text(fields, 3, wants),
         _ => Reason::NoCommand,
     }

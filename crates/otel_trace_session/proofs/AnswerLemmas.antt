@@ -2,7 +2,7 @@
 use Rattle.std.proofs.Common.{◌≡◌, ◌∙◌, Bool, true, false, refl}
 use Rattle.otel_export.specs.KeptBatches.{OnlyAdds}
 use Rattle.otel_pipeline.specs.ProcessorKeeps.{OnlyAppends}
-use Rattle.otel_trace_lines.specs.Commands.{PlainCommand, start, child, remote, attr, event, status, inject, end, flush, run, shutdown, set_int, set_bool, link, exception, event_with, forget, is_end, plain_command}
+use Rattle.otel_trace_lines.specs.Commands.{PlainCommand, start, child, remote, attr, event, status, inject, end, flush, run, shutdown, set_int, set_bool, set_float, link, exception, event_with, forget, is_end, plain_command}
 use Rattle.otel_trace_lines.specs.declared.command.Command.{Command}
 use Rattle.otel_trace_lines.specs.declared.reply.Answer.{Answer}
 use Rattle.otel_trace_session.specs.Actions.{action_of, ends_span}
@@ -30,6 +30,7 @@ same_end (run moment) = refl
 same_end shutdown = refl
 same_end (set_int span key value) = refl
 same_end (set_bool span key value) = refl
+same_end (set_float span key value) = refl
 same_end (link span target) = refl
 same_end (exception span kind moment message) = refl
 same_end (event_with span name moment key value) = refl

@@ -1,13 +1,14 @@
 -- What a command does, whatever its words: it starts a span, edits one, links it to another, tells its headers, ends
 -- it, gives its name up, or calls the provider.
 use Rattle.std.specs.Prelude.{ℕ, Bool, true, false, List, [], ◌∷◌, Option, Some, None, string_bytes}
-use Rattle.opentelemetry.specs.Plain.{PlainKeyValue, PlainValue, boolean, integer, text}
+use Rattle.opentelemetry.specs.Plain.{PlainKeyValue, PlainValue, boolean, integer, text, double}
 use Rattle.opentelemetry.specs.PlainSpanBuilder.{PlainSpanBuilder, named_builder}
 use Rattle.opentelemetry.specs.declared.trace.span_kind.SpanKind.{SpanKind}
 use Rattle.otel_pipeline.specs.Exceptions.{PlainException, exception_event}
 use Rattle.otel_pipeline.specs.SpanEdits.{Edit, add_event, new_event, plain_edit, set_attribute, set_status}
 use Rattle.otel_trace_lines.specs.Commands.{PlainCommand, start, child, remote, attr, event, status, inject, end, flush}
-use Rattle.otel_trace_lines.specs.Commands.{run, shutdown, set_int, set_bool, link, exception, event_with, forget}
+use Rattle.otel_trace_lines.specs.Commands.{run, shutdown, set_int, set_bool, set_float, link, exception}
+use Rattle.otel_trace_lines.specs.Commands.{event_with, forget}
 use Rattle.otel_trace_session.specs.declared.actions.Action.{Action}
 use Rattle.otel_trace_session.specs.declared.actions.Action.TheVariants as actions
 use Rattle.otel_trace_session.specs.declared.actions.Origin.{Origin}
@@ -71,6 +72,7 @@ action_of (run moment) = call_provider (call_run moment)
 action_of shutdown = call_provider call_shutdown
 action_of (set_int span key value) = edit_span span (attribute_edit key (integer value))
 action_of (set_bool span key value) = edit_span span (attribute_edit key (boolean value))
+action_of (set_float span key value) = edit_span span (attribute_edit key (double value))
 action_of (link span target) = link_span span target
 action_of (exception span kind moment message) =
     edit_span span (add_event (exception_event (exception_with message kind) moment))

@@ -142,6 +142,10 @@ pub(crate) fn action_of(alloc: Global, command: Command) -> Action
             span,
             edit: attribute(key, Value::Bool(value)),
         },
+        Command::Float { span, key, value } => Action::Edit {
+            span,
+            edit: attribute(key, Value::F64(value)),
+        },
         Command::Link { span, target } => Action::Link { span, target },
         Command::Exception {
             span,
