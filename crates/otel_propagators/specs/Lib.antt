@@ -1,1 +1,5 @@
+pub mod B3
+pub mod B3Headers
+pub mod Deferred
+pub mod UberTraceId
 pub mod Vendors

@@ -4,9 +4,9 @@ use Rattle.std.specs.Prelude.{ℕ, List, [], ◌∷◌, codes, Option, None, Som
 use Rattle.std.specs.Str.{bytes_eq}
 use Rattle.opentelemetry.specs.Carrier.{Injection}
 use Rattle.otel_propagation.specs.Composite.{Extraction, Infallible}
-use Rattle.otel_propagator_b3.specs.B3Headers as b3
-use Rattle.otel_propagator_b3.specs.declared.encoding.B3Encoding.TheVariants.{MultipleHeader, SingleHeader}
-use Rattle.otel_propagator_jaeger.specs.UberTraceId as jaeger
+use Rattle.otel_propagators.specs.B3Headers as b3
+use Rattle.otel_propagators.specs.declared.b3.encoding.B3Encoding.TheVariants.{MultipleHeader, SingleHeader}
+use Rattle.otel_propagators.specs.UberTraceId as jaeger
 use Rattle.otel_propagators.specs.declared.VendorPropagator.{VendorPropagator}
 use Rattle.otel_propagators.specs.declared.VendorPropagator.TheVariants as vendors
 

@@ -1,16 +1,19 @@
 // SPDX-License-Identifier: Apache-2.0
-//! The propagators of vendors by the names that the OpenTelemetry specification gives them in OTEL_PROPAGATORS.
-//! `configured_propagators` takes `VendorPropagators` for its custom ones.
+//! The propagators of vendors, B3 and Jaeger, and both by the names that the OpenTelemetry specification gives them in
+//! OTEL_PROPAGATORS: `configured_propagators` takes `VendorPropagators` for its custom ones.
 #![tactic(auto)]
+
+pub mod b3;
+pub mod jaeger;
 
 ghost use Rattle.std.specs.Prelude.{◌≡◌};
 ghost use Rattle.otel_propagators.specs.Vendors.{vendor_named};
 
+pub use b3::{B3Deferred, B3Encoding, B3Propagator};
+pub use jaeger::JaegerPropagator;
 use opentelemetry::Context;
 use opentelemetry::propagation::{Extractor, FieldIter, Injector, TextMapPropagator};
 use otel_propagation::propagation::CustomPropagators;
-use otel_propagator_b3::{B3Encoding, B3Propagator};
-use otel_propagator_jaeger::JaegerPropagator;
 use std::alloc::{AllocError, Global};
 
 /// The propagator of a vendor's headers.

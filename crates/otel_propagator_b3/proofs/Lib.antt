@@ -1,2 +1,0 @@
-pub mod B3Lemmas
-pub mod B3RoundTrip

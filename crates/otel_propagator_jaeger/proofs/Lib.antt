@@ -1,2 +1,0 @@
-pub mod JaegerLemmas
-pub mod JaegerRoundTrip

@@ -1,5 +1,0 @@
-use Rattle.otel_propagator_jaeger.proofs.JaegerRoundTrip.{injected_carries}
-use Rattle.otel_propagator_jaeger.proofs.laws.injected_uber_trace_id_is_carried.Goals as goal
-
-pub returns : goal.returns
-returns c = injected_carries
