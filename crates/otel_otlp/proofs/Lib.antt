@@ -6,7 +6,6 @@ pub mod LineLemmas
 pub mod LinesCut
 pub mod Numbers
 pub mod NumbersAlike
-pub mod QueueLemmas
 pub mod ReadsBack
 pub mod RunLaws
 pub mod Runs

@@ -4,6 +4,5 @@ pub mod LineExporter
 pub mod Otlp
 pub mod OtlpSpan
 pub mod OtlpValues
-pub mod QueueLines
 pub mod ScopeRuns
 pub mod Seen

@@ -6,7 +6,6 @@ mod exporter;
 pub mod fits;
 pub mod laws;
 pub mod parts;
-pub mod queue;
 mod request;
 mod span;
 mod tokens;

@@ -1,8 +1,8 @@
 use Rattle.std.proofs.Common.{refl}
 use Rattle.otel_pipeline.specs.SpanHistory.{span_of}
 use Rattle.otel_pipeline.specs.StartRequest.{start_question}
-use Rattle.otel_probability_laws.proofs.AnsweredHops.{hop_of_answer}
-use Rattle.otel_probability_laws.proofs.laws.starts_under_consistent_parents_make_hops.Goals as goal
+use Rattle.otel_laws.proofs.AnsweredHops.{hop_of_answer}
+use Rattle.otel_laws.proofs.hops.starts_under_consistent_parents_make_hops.Goals as goal
 
 pub returns : goal.returns
 returns g c = λ old new request history parent is_open unsuppressed active starts.

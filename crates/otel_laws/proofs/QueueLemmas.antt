@@ -15,7 +15,7 @@ use Rattle.otel_batch.specs.declared.machine.step.Step.TheVariants as step
 use Rattle.otel_batch.proofs.Conserving.{run-loses_none}
 use Rattle.otel_otlp.specs.LineExporter.{HoldsLines, LineExporter, LinedBatch, Shuts, TakesResource, Writes, batches_in}
 use Rattle.otel_otlp.specs.LineExporter.{lines_in, told_by}
-use Rattle.otel_otlp.specs.QueueLines.{LinesHoldSpans, RanOverLines}
+use Rattle.otel_laws.specs.QueueLines.{LinesHoldSpans, RanOverLines}
 use Rattle.otel_otlp.proofs.LineLemmas.{Carries, Holds, carries_same, export_carries, new_holds, resource_carries, shutdown_carries}
 
 -- where a telling began with nothing, all that it tells is what was handed over

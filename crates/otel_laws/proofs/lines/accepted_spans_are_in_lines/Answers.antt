@@ -1,7 +1,7 @@
 -- The queue's own law, and what each call of the exporter does to the stream.
 use Rattle.std.proofs.Common.{refl}
-use Rattle.otel_otlp.proofs.QueueLemmas.{lines_hold}
-use Rattle.otel_otlp.proofs.queue.accepted_spans_are_in_lines.Goals as goal
+use Rattle.otel_laws.proofs.QueueLemmas.{lines_hold}
+use Rattle.otel_laws.proofs.lines.accepted_spans_are_in_lines.Goals as goal
 
 pub returns : goal.returns
 returns g c = λ first xs os t lined h.

@@ -5,10 +5,10 @@ ghost use Rattle.otel_batch.specs.MachineState.{Machine};
 ghost use Rattle.otel_batch.specs.declared.machine.step.Outcome.{Outcome};
 ghost use Rattle.otel_batch.specs.declared.machine.step.Step.{Step};
 ghost use Rattle.otel_otlp.specs.LineExporter.{LineExporter, LinedBatch};
-ghost use Rattle.otel_otlp.specs.QueueLines.{LinesHoldSpans, RanOverLines};
+ghost use Rattle.otel_laws.specs.QueueLines.{LinesHoldSpans, RanOverLines};
 
-use crate::exporter::OtlpJsonExporter;
 use otel_export::trace::SpanExporter;
+use otel_otlp::OtlpJsonExporter;
 use std::io::Write;
 
 /// Over every list of steps of any number of producers and one worker, where no batch failed to be written: the sampled

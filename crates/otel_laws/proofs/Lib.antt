@@ -1,1 +1,2 @@
 pub mod AnsweredHops
+pub mod QueueLemmas
