@@ -50,12 +50,14 @@ impl Model for BaggageMetadata {
 }
 
 impl BaggageMetadata {
+    /// The properties of an entry as one text, which nothing here reads (W3C Baggage 3.3.1.3).
     pub fn new(text: String) -> BaggageMetadata
         ensures { result ≡ string_bytes text }
     {
         BaggageMetadata(text)
     }
 
+    /// The text, empty where an entry has no metadata.
     pub fn as_str(&self) -> &str
         ensures { result.now ≡ self.now }
     {
@@ -109,6 +111,7 @@ impl Model for KeyValueMetadata {
 }
 
 impl KeyValueMetadata {
+    /// An entry with its metadata, which is empty where there is none.
     pub fn new(key: String, value: String, metadata: BaggageMetadata) -> KeyValueMetadata
         ensures { result ≡ record { key = string_bytes key; value = string_bytes value; metadata = metadata } }
     {
@@ -226,6 +229,7 @@ impl Baggage {
         }
     }
 
+    /// The value of a name; none where the baggage does not have it. Names are compared byte by byte.
     pub fn get(&self, name: &str) -> Option<&str>
         ensures { option_copied result ≡ option_map (λ entry. entry.value) (entry_at self.now name.now) }
     {
@@ -235,6 +239,7 @@ impl Baggage {
         }
     }
 
+    /// The value of a name and its metadata; none where the baggage does not have it.
     pub fn get_with_metadata(&self, name: &str) -> Option<(&str, &BaggageMetadata)>
         ensures { option_map (λ pair. (pair.0.now, pair.1.now)) result ≡ found_at self.now name.now }
     {
@@ -255,6 +260,7 @@ impl Baggage {
         }
     }
 
+    /// How many entries there are, at most 64.
     pub fn len(&self) -> usize
         ensures len { result ≡ length self.now }
         ensures within { IsWithinLimits self.now }
@@ -276,6 +282,7 @@ impl Baggage {
         }
     }
 
+    /// Whether there is no entry.
     pub fn is_empty(&self) -> bool
         ensures { IsTrue result ↔ (self.now ≡ []) }
     {

@@ -149,6 +149,7 @@ impl Model for KeyValue {
 }
 
 impl KeyValue {
+    /// An attribute of this key and value (OpenTelemetry specification, "Attribute").
     pub fn new(key: Key, value: Value) -> KeyValue
         ensures { result ≡ record { key = key; value = plain_value value } }
     {

@@ -81,6 +81,7 @@ impl Context {
         &self.span_context
     }
 
+    /// Whether a span is active, also one whose span context is the empty one.
     pub fn has_active_span(&self) -> bool
         ensures { IsTrue result ↔ IsSome self.now.span_context }
     {
@@ -106,6 +107,7 @@ impl Context {
         })
     }
 
+    /// The baggage that is handed on, the empty one where there is none.
     pub fn baggage(&self) -> &Baggage
         ensures { result.now ≡ self.now.baggage }
     {
@@ -125,6 +127,7 @@ impl Context {
         Ok(cx)
     }
 
+    /// Whether no telemetry is to be recorded in this context, so that spans started in it record nothing.
     pub fn is_telemetry_suppressed(&self) -> bool
         ensures { result ≡ self.now.telemetry_suppressed }
     {

@@ -104,6 +104,7 @@ impl<'a> Model for FieldIter<'a> {
 }
 
 impl<'a> FieldIter<'a> {
+    /// Yields these names, in order.
     pub fn new(names: &'a [&'static str]) -> FieldIter<'a>
         ensures { result ≡ map (λ name. name.now) names.now }
     {

@@ -186,12 +186,14 @@ impl TraceFlags {
     /// The flags of a sampled span, the other bits zero.
     pub const SAMPLED: TraceFlags = TraceFlags(1);
 
+    /// Flags of these bits (W3C Trace Context 3.2.2.5).
     pub fn new(flags: u8) -> TraceFlags
         ensures { result ≡ flags }
     {
         TraceFlags(flags)
     }
 
+    /// Whether the lowest bit is set.
     pub fn is_sampled(&self) -> bool
         ensures { IsTrue result ↔ (self.now % 2 ≡ 1) }
     {
@@ -205,6 +207,7 @@ impl TraceFlags {
         TraceFlags(2 * (self.0 / 2) + if sampled { 1 } else { 0 })
     }
 
+    /// All eight bits.
     pub fn to_u8(self) -> u8
         ensures { result ≡ self }
     {

@@ -34,6 +34,7 @@ impl<K> Model for BaggageSpanProcessor<K> {
 }
 
 impl<K> BaggageSpanProcessor<K> {
+    /// A processor that copies the entries of these names from baggage to the attributes of each span that starts.
     pub fn new(alloc: Global, keys: K) -> BaggageSpanProcessor<K>
         ensures { result ≡ record { keys = keys; left_out = 0 } }
     {

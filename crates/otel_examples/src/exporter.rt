@@ -22,10 +22,12 @@ pub struct LineExporter<W> {
 }
 
 impl<W> LineExporter<W> {
+    /// An exporter that writes to this stream.
     pub fn new(alloc: Global, sink: W) -> LineExporter<W> {
         LineExporter { sink, alloc }
     }
 
+    /// The stream, to read what was written.
     pub fn sink(&self) -> &W {
         &self.sink
     }

@@ -38,6 +38,7 @@ pub struct QueueingProcessor<E> {
 }
 
 impl<E> QueueingProcessor<E> {
+    /// A processor in which at most so many spans wait for this exporter.
     pub fn new(alloc: Global, exporter: E, max_queue_size: usize) -> QueueingProcessor<E> {
         QueueingProcessor {
             exporter,
@@ -49,6 +50,7 @@ impl<E> QueueingProcessor<E> {
         }
     }
 
+    /// The exporter, to read what it has kept.
     pub fn exporter(&self) -> &E {
         &self.exporter
     }

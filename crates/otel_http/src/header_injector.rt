@@ -58,12 +58,14 @@ impl HeaderInjector {
         }
     }
 
+    /// The headers as they are now.
     pub fn headers(&self) -> &HeaderMap
         ensures { result.now ≡ headers_of self.now }
     {
         &self.headers
     }
 
+    /// Gives the headers back.
     pub fn into_headers(self) -> HeaderMap
         ensures { result ≡ headers_of self }
     {

@@ -29,6 +29,7 @@ impl Model for ConsistentParentBased {
 }
 
 impl ConsistentParentBased {
+    /// A sampler that decides on roots by this one, and on each other span by its parent.
     pub fn new(roots: ConsistentProbabilityBased) -> ConsistentParentBased
         ensures { result ≡ roots }
     {

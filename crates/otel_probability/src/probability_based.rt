@@ -42,6 +42,7 @@ impl ConsistentProbabilityBased {
         ConsistentProbabilityBased { alloc, threshold }
     }
 
+    /// The threshold that the random value of a trace has to reach.
     pub fn threshold(&self) -> Threshold
         ensures { result ≡ self.now }
     {

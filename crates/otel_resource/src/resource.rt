@@ -79,6 +79,7 @@ impl Resource {
         }
     }
 
+    /// Whether there is no attribute.
     pub fn is_empty(&self) -> bool
         ensures { IsTrue result ↔ (self.now.attributes ≡ fin.empty) }
     {

@@ -75,6 +75,7 @@ impl ReplyLines {
         ReplyLines::of_dialect(alloc, Dialect::Plain)
     }
 
+    /// The lines of replies in a dialect, with no room taken yet.
     pub fn of_dialect(alloc: Global, dialect: Dialect) -> ReplyLines
         ensures { result ≡ dialect }
     {

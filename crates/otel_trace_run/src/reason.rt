@@ -60,7 +60,8 @@ pub(crate) fn text_of(reason: Reason) -> &'static str
         Reason::Run => "run wants a moment",
         Reason::Int => "int wants a span, a key and an integer of 64 bits",
         Reason::Bool => "bool wants a span, a key, and true or false",
-        Reason::Float => "float wants a span, a key and a number, maybe with a point and an exponent",
+        Reason::Float =>
+            "float wants a span, a key and a number, maybe with a point and an exponent",
         Reason::Link => "link wants a span, and the span that it points to",
         Reason::Exception => "exception wants a span, a type, a moment and a text",
         Reason::Forget => "forget wants a span",

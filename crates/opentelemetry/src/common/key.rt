@@ -23,6 +23,7 @@ impl Model for Key {
 }
 
 impl Key {
+    /// A key made while the program runs. A constant one takes `from_static_str`, which copies nothing.
     pub fn new(key: String) -> Key
         ensures { result ≡ string_bytes key }
     {
@@ -36,6 +37,7 @@ impl Key {
         Key(CowStr::Borrowed(key))
     }
 
+    /// The text of the key.
     pub fn as_str(&self) -> &str
         ensures { result.now ≡ self.now }
     {

@@ -103,24 +103,28 @@ impl InstrumentationScope {
         }
     }
 
+    /// The name of the library, which may be empty.
     pub fn name(&self) -> &str
         ensures { result.now ≡ self.now.name }
     {
         self.parts.name.as_str()
     }
 
+    /// The version of the library, if one was given.
     pub fn version(&self) -> Option<&str>
         ensures { option_copied result ≡ self.now.version }
     {
         self.parts.version.as_deref()
     }
 
+    /// Where the schema of what the library records stands, if it was given.
     pub fn schema_url(&self) -> Option<&str>
         ensures { option_copied result ≡ self.now.schema_url }
     {
         self.parts.schema_url.as_deref()
     }
 
+    /// The attributes of the scope, in the order in which they were given.
     pub fn attributes(&self) -> &[KeyValue]
         ensures { result.now ≡ self.now.attributes }
     {
@@ -161,6 +165,7 @@ impl Eq for InstrumentationScope {
 }
 
 impl InstrumentationScopeBuilder {
+    /// With this version of the library, in place of an earlier one.
     pub fn with_version(self, version: String) -> InstrumentationScopeBuilder
         ensures { result ≡ record self { version = Some (string_bytes version) } }
     {
@@ -172,6 +177,7 @@ impl InstrumentationScopeBuilder {
         InstrumentationScopeBuilder { parts, alloc }
     }
 
+    /// With the address of this schema, in place of an earlier one.
     pub fn with_schema_url(self, schema_url: String) -> InstrumentationScopeBuilder
         ensures { result ≡ record self { schema_url = Some (string_bytes schema_url) } }
     {
@@ -183,6 +189,7 @@ impl InstrumentationScopeBuilder {
         InstrumentationScopeBuilder { parts, alloc }
     }
 
+    /// With these attributes, in place of earlier ones.
     pub fn with_attributes(self, attributes: Vec<KeyValue>) -> InstrumentationScopeBuilder
         ensures { result ≡ record self { attributes = attributes.items } }
     {

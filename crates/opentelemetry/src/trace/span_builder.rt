@@ -54,6 +54,7 @@ impl SpanBuilder {
         }
     }
 
+    /// With this kind. A span without one is internal.
     pub fn with_kind(mut self, span_kind: SpanKind) -> SpanBuilder
         ensures { result ≡ record self { span_kind = Some span_kind } }
     {
@@ -61,6 +62,7 @@ impl SpanBuilder {
         self
     }
 
+    /// With this start, in place of the moment at which it is started.
     pub fn with_start_time(mut self, start_time: Moment) -> SpanBuilder
         ensures { result ≡ record self { start_time = Some start_time.0 } }
     {
@@ -68,6 +70,7 @@ impl SpanBuilder {
         self
     }
 
+    /// With these attributes, which the sampler sees, in place of earlier ones.
     pub fn with_attributes(mut self, attributes: Vec<KeyValue>) -> SpanBuilder
         ensures { result ≡ record self { attributes = Some attributes.items } }
     {
@@ -75,6 +78,7 @@ impl SpanBuilder {
         self
     }
 
+    /// With these events, in place of earlier ones.
     pub fn with_events(mut self, events: Vec<Event>) -> SpanBuilder
         ensures { result ≡ record self { events = Some events.items } }
     {
@@ -82,6 +86,7 @@ impl SpanBuilder {
         self
     }
 
+    /// With these links, which the sampler sees, in place of earlier ones.
     pub fn with_links(mut self, links: Vec<Link>) -> SpanBuilder
         ensures { result ≡ record self { links = Some links.items } }
     {

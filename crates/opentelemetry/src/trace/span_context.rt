@@ -33,6 +33,8 @@ impl Model for SpanContext {
 }
 
 impl SpanContext {
+    /// The context of a span of these ids. `is_remote` says that it came from another process. It is valid where
+    /// neither id is zero (OpenTelemetry API, "SpanContext").
     pub fn new(
         trace_id: TraceId,
         span_id: SpanId,
@@ -70,24 +72,28 @@ impl SpanContext {
         }
     }
 
+    /// The id of the trace, shared by all its spans.
     pub fn trace_id(&self) -> TraceId
         ensures { result ≡ self.now.trace_id }
     {
         self.trace_id
     }
 
+    /// The id of the span.
     pub fn span_id(&self) -> SpanId
         ensures { result ≡ self.now.span_id }
     {
         self.span_id
     }
 
+    /// The flags, of which the lowest bit says that the span is sampled.
     pub fn trace_flags(&self) -> TraceFlags
         ensures { result ≡ self.now.trace_flags }
     {
         self.trace_flags
     }
 
+    /// What vendors add, as the header `tracestate` carries it.
     pub fn trace_state(&self) -> &TraceState
         ensures { result.now ≡ self.now.trace_state }
     {

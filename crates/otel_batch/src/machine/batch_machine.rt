@@ -144,6 +144,7 @@ impl<E> BatchMachine<E> {
         None
     }
 
+    /// The exporter, to read what it has kept.
     pub fn exporter(&self) -> &E
         ensures { result.now ≡ self.now.exporter }
     {

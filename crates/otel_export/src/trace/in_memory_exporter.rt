@@ -37,6 +37,7 @@ impl Model for InMemorySpanExporter {
 }
 
 impl InMemorySpanExporter {
+    /// An exporter that has kept nothing yet.
     pub fn new(alloc: Global) -> InMemorySpanExporter
         ensures kept { result ≡ none_stored }
         ensures told { ⟦<InMemorySpanExporter as SpanExporter>⟧.told result ≡ Some [] }

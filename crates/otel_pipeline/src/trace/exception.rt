@@ -50,6 +50,7 @@ impl Exception {
         }
     }
 
+    /// With the name of its type, the attribute `exception.type`.
     pub fn with_type(mut self, exception_type: String) -> Exception
         ensures { result ≡ record self { exception_type = Some (string_bytes exception_type) } }
     {
@@ -57,6 +58,7 @@ impl Exception {
         self
     }
 
+    /// With a trace of the calls it came from, the attribute `exception.stacktrace`.
     pub fn with_stacktrace(mut self, stacktrace: String) -> Exception
         ensures { result ≡ record self { stacktrace = Some (string_bytes stacktrace) } }
     {

@@ -36,6 +36,7 @@ impl<E> Model for SimpleSpanProcessor<E> {
 }
 
 impl<E> SimpleSpanProcessor<E> {
+    /// A processor that hands each sampled span to this exporter as the span ends.
     pub fn new(alloc: Global, exporter: E) -> SimpleSpanProcessor<E>
         ensures { result ≡ first_simple exporter }
     {
@@ -47,6 +48,7 @@ impl<E> SimpleSpanProcessor<E> {
         }
     }
 
+    /// The exporter, to read what it has kept.
     pub fn exporter(&self) -> &E
         ensures { result.now ≡ self.now.exporter }
     {

@@ -97,6 +97,7 @@ impl<E> BatchSpanProcessor<E> {
         self.is_eager && !self.machine.is_closed() && span.span_context.is_sampled()
     }
 
+    /// The exporter, to read what it has kept.
     pub fn exporter(&self) -> &E
         ensures { result.now ≡ self.now.machine.exporter }
     {
@@ -364,6 +365,7 @@ impl<E: SpanExporter> BatchSpanProcessorBuilder<E> {
     ghost use Rattle.std.specs.Prelude.{true};
     ghost use Rattle.otel_processors.specs.BatchProcessor.{built_processor};
 
+    /// With these sizes and times, in place of those that strings configure.
     pub fn with_batch_config(self, config: BatchConfig) -> BatchSpanProcessorBuilder<E>
         ensures { result ≡ record self { config = config } }
     {

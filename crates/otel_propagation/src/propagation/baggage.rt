@@ -18,6 +18,7 @@ use std::alloc::{AllocError, Global};
 pub struct BaggagePropagator;
 
 impl BaggagePropagator {
+    /// The propagator, which has no settings.
     pub const fn new() -> BaggagePropagator {
         BaggagePropagator
     }

@@ -23,6 +23,7 @@ use std::alloc::{AllocError, Global};
 pub struct StrictBaggagePropagator;
 
 impl StrictBaggagePropagator {
+    /// The propagator, which has no settings.
     pub const fn new() -> StrictBaggagePropagator {
         StrictBaggagePropagator
     }

@@ -33,6 +33,7 @@ const INVALID_VERSION: u128 = 0xff;
 pub struct TraceContextPropagator;
 
 impl TraceContextPropagator {
+    /// The propagator, which has no settings.
     pub const fn new() -> TraceContextPropagator {
         TraceContextPropagator
     }

@@ -14,6 +14,7 @@ pub enum Field {
 }
 
 impl Field {
+    /// The header's name, in lower case.
     pub fn name(self) -> &'static str
         ensures { result.now ≡ name_of self }
     {

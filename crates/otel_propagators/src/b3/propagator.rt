@@ -30,6 +30,7 @@ impl B3Propagator {
         B3Propagator::with_encoding(B3Encoding::SingleHeader)
     }
 
+    /// A propagator that writes the headers of this encoding. It reads all of them.
     pub fn with_encoding(encoding: B3Encoding) -> B3Propagator
         ensures { result.encoding ≡ encoding }
     {

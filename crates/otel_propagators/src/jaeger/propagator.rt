@@ -24,6 +24,7 @@ const HEADER_BYTES: usize = 53;
 pub struct JaegerPropagator;
 
 impl JaegerPropagator {
+    /// The propagator, which has no settings.
     pub const fn new() -> JaegerPropagator {
         JaegerPropagator
     }

@@ -19,6 +19,7 @@ pub struct TelemetryResourceDetector {
 }
 
 impl TelemetryResourceDetector {
+    /// A detector of `telemetry.sdk.name`, `telemetry.sdk.language` and `telemetry.sdk.version`.
     pub fn new(alloc: Global) -> TelemetryResourceDetector {
         TelemetryResourceDetector { alloc }
     }

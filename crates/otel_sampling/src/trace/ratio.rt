@@ -81,12 +81,14 @@ impl Ratio {
         }
     }
 
+    /// The number above the line.
     pub fn numerator(&self) -> u64
         ensures { result ≡ self.now.numerator }
     {
         self.numerator
     }
 
+    /// The number below the line, which is not zero.
     pub fn denominator(&self) -> u64
         ensures value { result ≡ self.now.denominator }
         ensures not_zero { 0 < result }
