@@ -1,15 +1,12 @@
 pub mod BadLines
-pub mod ChoiceWords
 pub mod Cut
 pub mod Drawing
 pub mod Exporting
 pub mod GivenLemmas
-pub mod ModeWords
-pub mod PageWords
 pub mod ProgramLemmas
 pub mod ReasonLemmas
 pub mod StepStream
 pub mod TraceEnds
 pub mod TraceStream
 pub mod Viewing
-pub mod ViewWords
+pub mod WordNumbers

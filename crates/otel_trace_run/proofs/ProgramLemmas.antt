@@ -5,13 +5,12 @@ use Rattle.otel_trace_lines.specs.ReplyForm.{reply_lines, reply_lines_in}
 use Rattle.otel_trace_lines.specs.declared.dialect.Dialect.{Dialect}
 use Rattle.otel_trace_lines.specs.declared.dialect.Dialect.TheVariants as dialects
 use Rattle.otel_pipeline.specs.Provider.{ProviderState}
-use Rattle.otel_trace_run.specs.Arguments.{Asks, PlainMode, otlp, picture, steps, trace}
+use Rattle.otel_trace_run.specs.Arguments.{PlainMode, otlp, picture, steps, trace}
 use Rattle.otel_trace_run.specs.PictureRuns.{Painting}
 use Rattle.otel_trace_run.specs.Program.{BeginsAsked, GivesBeginning, GivesWhole, IsProviderOf, MemoryProcessor, Runs, RunsTo, TracesAsked, reads_commands, says_reasons}
 use Rattle.otel_trace_run.specs.TraceRuns.{TracesBegun, TracesWhole}
 use Rattle.otel_trace_run.proofs.Drawing.{drawing_begun}
 use Rattle.otel_trace_run.proofs.Exporting.{exporting_begun}
-use Rattle.otel_trace_run.proofs.ModeWords.{mode_once}
 use Rattle.otel_trace_run.proofs.StepStream.{all_begun as steps_begun}
 use Rattle.otel_trace_run.proofs.TraceEnds.{whole_begun}
 use Rattle.otel_trace_session.specs.Calls.{Calls}
@@ -96,11 +95,10 @@ module _ {C D E : Type 0} (calls : Calls (MemoryProcessor C D) (SamplerOf E) (Li
       → RunsTo calls paints mode s end
   runs_same mode found s end same ran = subst (λ (m : PlainMode). RunsTo calls paints m s end) same ran
 
-  -- a run of the mode that was found, by its status, is one of any mode that the words ask for
-  pub runs_asked : (words : List (List ℕ)) (mode found : PlainMode) (s : Streams) (end : RunEnd) (says : Bool) (Silent : Type 0) (Says : List ℕ → Type 0)
-      (status : ℕ) → Asks words mode → Asks words found → RunsTo calls paints found s end → says ≡ says_reasons found
+  -- a run of a mode, by its status
+  pub runs_by_status : (mode : PlainMode) (s : Streams) (end : RunEnd) (says : Bool) (Silent : Type 0) (Says : List ℕ → Type 0)
+      (status : ℕ) → RunsTo calls paints mode s end → says ≡ says_reasons mode
       → Reports end says Silent Says status → Runs calls paints mode s Silent Says status
-  runs_asked words mode found s end says Silent Says status asks is ran same reports =
-      subst (λ (m : PlainMode). Runs calls paints m s Silent Says status) (mode_once words found mode is asks)
-      (ends_with (reads_commands found) (GivesWhole calls paints found s) (GivesBeginning calls paints found s) Silent (says_reasons found) Says s end status (mode_begun found s) ran
-      (subst (λ (b : Bool). Reports end b Silent Says status) same reports))
+  runs_by_status mode s end says Silent Says status ran same reports =
+      ends_with (reads_commands mode) (GivesWhole calls paints mode s) (GivesBeginning calls paints mode s) Silent (says_reasons mode) Says s end status (mode_begun mode s) ran
+      (subst (λ (b : Bool). Reports end b Silent Says status) same reports)

@@ -1,9 +1,11 @@
--- What the arguments of the program ask for, and what is said of wrong ones and of a bad line.
-use Rattle.std.specs.Prelude.{◌≡◌, ◌≤◌, ℕ, List, [], ◌∷◌, ◌++◌, Some, None, codes, length, map, string_bytes}
+-- The modes that the arguments of the program ask for, and what is said of wrong ones and of a bad line.
+use Rattle.std.specs.Prelude.{ℕ, List, [], ◌∷◌, ◌++◌, length, Option, Some, None, codes, map, string_bytes, option_and_then}
+use Rattle.std.specs.Prelude.{if◌then◌else◌, nat_lt, ◌||◌}
 use Rattle.std.specs.Fmt.{decimal}
-use Rattle.otel_trace_lines.specs.Lines.{IsDecimal64}
+use Rattle.std.specs.Option.{option_map}
+use Rattle.std.specs.Str.{bytes_eq}
 use Rattle.otel_trace_steps.specs.declared.steps.Sizes.{Sizes}
-use Rattle.otel_trace_run.specs.GivenAttributes.{GivesUnread}
+use Rattle.otel_trace_run.specs.Words.{decimal_in}
 use Rattle.otel_trace_run.specs.declared.mode.Asked.{Asked}
 use Rattle.otel_trace_run.specs.declared.mode.AskedExport.{AskedExport}
 use Rattle.otel_trace_run.specs.declared.mode.AskedProcessor.{AskedProcessor}
@@ -15,91 +17,65 @@ use Rattle.otel_trace_run.specs.declared.mode.Mode.TheVariants as modes
 use Rattle.otel_trace_run.specs.declared.picture.PictureForm.{PictureForm}
 use Rattle.otel_trace_run.specs.declared.picture.PictureForm.TheVariants as forms
 
--- the words of a processor: `simple`, or `batch Q B`. Sizes are written in decimal digits alone, in range of 64 bits
-abbrev pub NamesProcessor : List (List ℕ) → AskedProcessor → Type 0
-NamesProcessor words asks.Simple = words ≡ codes "simple" ∷ []
-NamesProcessor words (asks.Batch queue batch) =
-    (q : List ℕ) × (b : List ℕ) × IsDecimal64 q queue × IsDecimal64 b batch × (words ≡ codes "batch" ∷ q ∷ b ∷ [])
+-- what is read of the front of words, and the words after it
+abbrev pub Front : Type 0 → Type 0
+Front X = X × List (List ℕ)
 
--- the words of a processor, and after them one more word at most
-abbrev pub NamesGiven : List (List ℕ) → AskedProcessor → List (List ℕ) → Type 0
-NamesGiven words asks.Simple given = (length given ≤ 1) × (words ≡ codes "simple" ∷ given)
-NamesGiven words (asks.Batch queue batch) given = (length given ≤ 1)
-    × (q : List ℕ) × (b : List ℕ) × IsDecimal64 q queue × IsDecimal64 b batch × (words ≡ codes "batch" ∷ q ∷ b ∷ given)
+-- where no word stands after it
+abbrev pub alone : {X : Type 0} → Front X → Option X
+alone (x, []) = Some x
+alone (x, word ∷ words) = None
 
--- the words `SEED` and those of a processor, where the seed is written as sizes are
-pub record NamesAsked (words : List (List ℕ)) (asked : Asked) : Type 0 where
-  pub digits : List ℕ
-  pub kind : List (List ℕ)
-  pub seed : IsDecimal64 digits asked.seed
-  pub processor : NamesProcessor kind asked.processor
-  pub words_are : words ≡ digits ∷ kind
+-- where one word at most stands after it
+abbrev pub with_one : {X : Type 0} → Front X → Option (Front X)
+with_one (x, after) = if nat_lt (length after) 2 then Some (x, after) else None
 
--- the same, and after them one more word at most
-pub record NamesAskedGiven (words : List (List ℕ)) (asked : Asked) (given : List (List ℕ)) : Type 0 where
-  pub digits : List ℕ
-  pub after : List (List ℕ)
-  pub seed : IsDecimal64 digits asked.seed
-  pub named : NamesGiven after asked.processor given
-  pub words_are : words ≡ digits ∷ after
+-- the sizes of `Q B`
+abbrev pub batch_in : List (List ℕ) → Option (Front AskedProcessor)
+batch_in [] = None
+batch_in (queue ∷ []) = None
+batch_in (queue ∷ batch ∷ after) =
+    option_and_then (λ q. option_map (λ b. (asks.Batch q b, after)) (decimal_in batch)) (decimal_in queue)
 
--- the encoding that a first word asks for, JSON where it asks for none, and the words after it
-abbrev pub NamesEncoding : List (List ℕ) → Encoding → List (List ℕ) → Type 0
-NamesEncoding words encodings.Json rest =
-    (rest ≡ words) × ((after : List (List ℕ)) → words ≡ codes "protobuf" ∷ after → ⊥)
-NamesEncoding words encodings.Protobuf rest = words ≡ codes "protobuf" ∷ rest
+-- the processor of `simple`, or of `batch Q B`
+abbrev pub processor_in : List (List ℕ) → Option (Front AskedProcessor)
+processor_in [] = None
+processor_in (kind ∷ after) =
+    if bytes_eq kind (codes "simple") then Some (asks.Simple, after)
+    else (if bytes_eq kind (codes "batch") then batch_in after else None)
 
--- the same, and after it the words of a provider, where each attribute reads of the string that is given
-pub record NamesOtlp (words : List (List ℕ)) (export : AskedExport) (given : List (List ℕ)) : Type 0 where
-  pub rest : List (List ℕ)
-  pub encoding : NamesEncoding words export.encoding rest
-  pub named : NamesAskedGiven rest export.asked given
-  pub read : GivesUnread given None
+-- `SEED` and a processor
+abbrev pub asked_in : List (List ℕ) → Option (Front Asked)
+asked_in [] = None
+asked_in (seed ∷ kind) =
+    option_and_then (λ s. option_map (λ p. (record { seed = s; processor = p.0 }, p.1)) (processor_in kind))
+    (decimal_in seed)
 
--- the same, where this attribute is the first that does not read
-pub record NamesUnread (words : List (List ℕ)) (member : List ℕ) : Type 0 where
-  pub encoding : Encoding
-  pub rest : List (List ℕ)
-  pub names : NamesEncoding words encoding rest
-  pub asked : Asked
-  pub given : List (List ℕ)
-  pub named : NamesAskedGiven rest asked given
-  pub unread : GivesUnread given (Some member)
+-- the encoding that a first word names, or JSON
+abbrev pub encoding_in : List (List ℕ) → Front Encoding
+encoding_in [] = (encodings.Json, [])
+encoding_in (word ∷ after) =
+    if bytes_eq word (codes "protobuf") then (encodings.Protobuf, after) else (encodings.Json, word ∷ after)
 
--- words that would ask for the mode `otlp`, if this attribute read
-abbrev pub AsksUnread : List (List ℕ) → List ℕ → Type 0
-AsksUnread [] member = ⊥
-AsksUnread (word ∷ after) member = (word ≡ codes "otlp") × NamesUnread after member
+-- the columns that a word writes, from 20 to 400; those of the words after a provider, or 72
+abbrev pub in_range : ℕ → Option ℕ
+in_range columns = if nat_lt columns 20 || nat_lt 400 columns then None else Some columns
 
--- digits write a number of columns, 20 at least and 400 at most
-abbrev pub WritesColumns : List ℕ → ℕ → Type 0
-WritesColumns digits columns = IsDecimal64 digits columns × (20 ≤ columns) × (columns ≤ 400)
+abbrev pub columns_in : List ℕ → Option ℕ
+columns_in digits = option_and_then in_range (decimal_in digits)
 
--- the columns that a word gives, or 72 where none does
-abbrev pub GivesColumns : List (List ℕ) → ℕ → Type 0
-GivesColumns [] columns = columns ≡ 72
-GivesColumns (digits ∷ more) columns = WritesColumns digits columns
+abbrev pub given_columns : List (List ℕ) → Option ℕ
+given_columns [] = Some 72
+given_columns (digits ∷ more) = columns_in digits
 
--- the words of a provider, and a number of columns, if one is given
-pub record NamesText (words : List (List ℕ)) (asked : Asked) (columns : ℕ) : Type 0 where
-  pub given : List (List ℕ)
-  pub named : NamesAskedGiven words asked given
-  pub wide : GivesColumns given columns
+-- the sizes of `Q B P`
+abbrev pub sizes_in : List (List ℕ) → Option Sizes
+sizes_in (queue ∷ batch ∷ producers ∷ []) =
+    option_and_then (λ q. option_and_then (λ b. option_map (λ p. record { queue = q; batch = b; producers = p })
+    (decimal_in producers)) (decimal_in batch)) (decimal_in queue)
+sizes_in _ = None
 
--- three numbers write these sizes
-abbrev pub WriteSizes : List ℕ → List ℕ → List ℕ → Sizes → Type 0
-WriteSizes queue batch producers sizes =
-    IsDecimal64 queue sizes.queue × IsDecimal64 batch sizes.batch × IsDecimal64 producers sizes.producers
-
--- the words `Q B P`
-pub record NamesSizes (words : List (List ℕ)) (sizes : Sizes) : Type 0 where
-  pub queue : List ℕ
-  pub batch : List ℕ
-  pub producers : List ℕ
-  pub written : WriteSizes queue batch producers sizes
-  pub words_are : words ≡ queue ∷ batch ∷ producers ∷ []
-
--- what the arguments ask for, as plain values
+-- a mode as plain values
 pub data PlainMode : Type 0 where
   trace : Asked → PlainMode
   steps : Sizes → PlainMode
@@ -113,31 +89,26 @@ plain_mode (modes.Steps sizes) = steps sizes
 plain_mode (modes.Otlp export given) = otlp export (map string_bytes given.now)
 plain_mode (modes.Picture asked form) = picture asked form
 
--- the word of a mode
-abbrev pub word_of : PlainMode → List ℕ
-word_of (trace asked) = codes "trace"
-word_of (steps sizes) = codes "steps"
-word_of (otlp export given) = codes "otlp"
-word_of (picture asked (forms.Text columns)) = codes "picture"
-word_of (picture asked forms.Svg) = codes "svg"
+abbrev pub exported : Encoding → Front Asked → PlainMode
+exported encoding read = otlp (record { encoding = encoding; asked = read.0 }) read.1
 
--- what stands after the word of a mode
-abbrev pub Names : List (List ℕ) → PlainMode → Type 0
-Names words (trace asked) = NamesAsked words asked
-Names words (steps sizes) = NamesSizes words sizes
-Names words (otlp export given) = NamesOtlp words export given
-Names words (picture asked (forms.Text columns)) = NamesText words asked columns
-Names words (picture asked forms.Svg) = NamesAsked words asked
+abbrev pub otlp_in : List (List ℕ) → Option PlainMode
+otlp_in words = option_map (exported (encoding_in words).0) (option_and_then with_one (asked_in (encoding_in words).1))
 
--- words ask for a mode: its own word, and what names the rest of it
-pub record Asks (words : List (List ℕ)) (mode : PlainMode) : Type 0 where
-  pub after : List (List ℕ)
-  pub names : Names after mode
-  pub words_are : words ≡ word_of mode ∷ after
+abbrev pub picture_in : List (List ℕ) → Option PlainMode
+picture_in words =
+    option_and_then (λ read. option_map (λ columns. picture read.0 (forms.Text columns)) (given_columns read.1))
+    (option_and_then with_one (asked_in words))
 
--- words that ask for no mode
-abbrev pub AsksForNothing : List (List ℕ) → Type 0
-AsksForNothing words = (mode : PlainMode) → Asks words mode → ⊥
+-- a mode by its word and the words after it
+unfoldable pub mode_in : List ℕ → List (List ℕ) → Option PlainMode
+mode_in word after =
+    if bytes_eq word (codes "trace") then option_map trace (option_and_then alone (asked_in after)) else
+    (if bytes_eq word (codes "steps") then option_map steps (sizes_in after) else
+    (if bytes_eq word (codes "otlp") then otlp_in after else
+    (if bytes_eq word (codes "picture") then picture_in after else
+    (if bytes_eq word (codes "svg")
+    then option_map (λ asked. picture asked forms.Svg) (option_and_then alone (asked_in after)) else None))))
 
 -- what is said of wrong words
 abbrev pub usage_text : List ℕ

@@ -1,60 +1,53 @@
 -- How words ask for a view.
-use Rattle.std.specs.Prelude.{◌≡◌, ◌⊎◌, ◌<◌, ◌^◌, ℕ, true, List, [], ◌∷◌, Some, codes}
-use Rattle.std.specs.Bool.{MatchBool}
+use Rattle.std.specs.Prelude.{true, ℕ, List, [], ◌∷◌, Option, Some, None, codes, option_and_then, if◌then◌else◌}
+use Rattle.std.specs.Option.{option_map}
+use Rattle.std.specs.Str.{bytes_eq}
 use Rattle.std.specs.Str.Parse.{starts_with_minus}
-use Rattle.opentelemetry.specs.Hex.{hex_text}
-use Rattle.otel_trace_lines.specs.Lines.{IsDecimal64}
 use Rattle.otel_picture.specs.Choices.{every}
 use Rattle.otel_picture.specs.declared.choice.Choice.{Choice}
-use Rattle.otel_trace_run.specs.Arguments.{WritesColumns}
+use Rattle.otel_trace_run.specs.Arguments.{columns_in}
+use Rattle.otel_trace_run.specs.Words.{decimal_in, trace_id_in}
 use Rattle.otel_trace_run.specs.declared.asked_view.View.{View}
 use Rattle.otel_trace_run.specs.declared.asked_view.ViewForm.{ViewForm}
 use Rattle.otel_trace_run.specs.declared.asked_view.ViewForm.TheVariants as views
 use Rattle.otel_trace_run.specs.declared.picture.PictureForm.TheVariants as forms
 
--- the form that a word names: a number of columns, or the word `svg` or `json`
-abbrev pub WordForm : List ℕ → ViewForm → Type 0
-WordForm word (views.Picture (forms.Text columns)) = WritesColumns word columns
-WordForm word (views.Picture forms.Svg) = word ≡ codes "svg"
-WordForm word views.Summary = word ≡ codes "json"
-
--- the form where no word names one
-abbrev pub plain_form : ViewForm
-plain_form = views.Picture (forms.Text 72)
-
--- what a word and the one after it add to a choice: `--slowest` a number, `--trace` the id that 32 digits spell
-abbrev pub Narrows : (word value : List ℕ) → (old new : Choice) → Type 0
-Narrows word value old new =
-    ((word ≡ codes "--slowest") × ((count : ℕ) × IsDecimal64 value count × (new ≡ record old { slowest = Some count })))
-    ⊎ ((word ≡ codes "--trace") × ((id : ℕ) × (id < 16 ^ 32) × (value ≡ hex_text 32 id)
-    × (new ≡ record old { trace_id = Some id })))
+-- what a word and the one after it add to a choice
+unfoldable pub narrowed : List ℕ → List ℕ → Choice → Option Choice
+narrowed word value old =
+    if bytes_eq word (codes "--slowest")
+    then option_map (λ count. record old { slowest = Some count }) (decimal_in value) else
+    (if bytes_eq word (codes "--trace")
+    then option_map (λ id. record old { trace_id = Some id }) (trace_id_in value) else None)
 
 -- what words choose, after what was chosen before them
 abbrev mutual
-  pub Chooses : List (List ℕ) → (old new : Choice) → Type 0
-  Chooses [] old new = new ≡ old
-  Chooses (word ∷ after) old new =
-      ((word ≡ codes "--errors") × Chooses after (record old { errors_only = true }) new) ⊎ ChoosesBy word after old new
+  pub chosen : List (List ℕ) → Choice → Option Choice
+  chosen [] old = Some old
+  chosen (word ∷ after) old =
+      if bytes_eq word (codes "--errors") then chosen after (record old { errors_only = true })
+      else chosen_by word after old
 
-  pub ChoosesBy : List ℕ → List (List ℕ) → (old new : Choice) → Type 0
-  ChoosesBy word [] old new = ⊥
-  ChoosesBy word (value ∷ after) old new =
-      (middle : Choice) × Narrows word value old middle × Chooses after middle new
+  pub chosen_by : List ℕ → List (List ℕ) → Choice → Option Choice
+  chosen_by word [] old = None
+  chosen_by word (value ∷ after) old = option_and_then (chosen after) (narrowed word value old)
 
--- what stands after the word `view`: a form, if the first word does not begin with a minus, and what is chosen
-abbrev pub NamesView : List (List ℕ) → View → Type 0
-NamesView [] view = (view.form ≡ plain_form) × (view.choice ≡ every)
-NamesView (word ∷ after) view =
-    MatchBool (starts_with_minus word)
-    ((view.form ≡ plain_form) × Chooses (word ∷ after) every view.choice)
-    (WordForm word view.form × Chooses after every view.choice)
+-- the form where no word names one, and that which a word names
+abbrev pub plain_form : ViewForm
+plain_form = views.Picture (forms.Text 72)
 
--- words ask for a view
-pub record AsksView (words : List (List ℕ)) (view : View) : Type 0 where
-  pub given : List (List ℕ)
-  pub named : NamesView given view
-  pub words_are : words ≡ codes "view" ∷ given
+unfoldable pub form_in : List ℕ → Option ViewForm
+form_in word =
+    if bytes_eq word (codes "svg") then Some (views.Picture forms.Svg) else
+    (if bytes_eq word (codes "json") then Some views.Summary
+    else option_map (λ columns. views.Picture (forms.Text columns)) (columns_in word))
 
--- words that ask for none
-abbrev pub AsksForNoView : List (List ℕ) → Type 0
-AsksForNoView words = (view : View) → AsksView words view → ⊥
+abbrev pub viewed : ViewForm → List (List ℕ) → Option View
+viewed form words = option_map (λ choice. record { form = form; choice = choice }) (chosen words every)
+
+-- the words after `view`: a form, if the first one does not begin with a minus, and what is chosen
+abbrev pub view_in : List (List ℕ) → Option View
+view_in [] = viewed plain_form []
+view_in (word ∷ after) =
+    if starts_with_minus word then viewed plain_form (word ∷ after)
+    else option_and_then (λ form. viewed form after) (form_in word)

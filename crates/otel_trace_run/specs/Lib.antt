@@ -7,7 +7,9 @@ pub mod Paintings
 pub mod PictureRuns
 pub mod Program
 pub mod Reasons
+pub mod Requests
 pub mod StepRuns
 pub mod Streams
 pub mod TraceRuns
 pub mod Views
+pub mod Words

@@ -1,8 +1,9 @@
 -- What the program says of itself, and of words that ask for nothing.
-use Rattle.std.specs.Prelude.{◌≡◌, ◌⊎◌, ◌≢◌, ℕ, List, [], ◌∷◌, ◌++◌, Option, codes}
+use Rattle.std.specs.Prelude.{◌≡◌, ◌⊎◌, ◌||◌, ℕ, Bool, List, [], ◌∷◌, ◌++◌, Option, Some, None, codes, if◌then◌else◌}
+use Rattle.std.specs.Str.{bytes_eq}
 use Rattle.std.specs.Io.KnownBytes.{Appends}
 use Rattle.otel_export.specs.Streams.{AppendsBeginning}
-use Rattle.otel_trace_run.specs.Arguments.{AsksUnread, usage_text}
+use Rattle.otel_trace_run.specs.Arguments.{usage_text}
 use Rattle.otel_trace_run.specs.declared.pages.Page.{Page}
 use Rattle.otel_trace_run.specs.declared.pages.Page.TheVariants as pages
 use Rattle.otel_trace_run.specs.declared.pages.TheConstants.{HELP, OTLP_HELP, OTLP_USAGE, PICTURE_HELP, PICTURE_USAGE}
@@ -19,63 +20,48 @@ page_text pages.Svg = SVG_HELP.now
 page_text pages.View = VIEW_HELP.now
 page_text pages.Version = VERSION.now
 
--- the words that ask for help, and for the version
-abbrev pub IsHelpWord : List ℕ → Type 0
-IsHelpWord word = (word ≡ codes "help") ⊎ (word ≡ codes "--help") ⊎ (word ≡ codes "-h")
+-- a word that asks for help, and one that asks for the version
+abbrev pub is_help : List ℕ → Bool
+is_help word = bytes_eq word (codes "help") || bytes_eq word (codes "--help") || bytes_eq word (codes "-h")
 
-abbrev pub IsVersionWord : List ℕ → Type 0
-IsVersionWord word = (word ≡ codes "version") ⊎ (word ≡ codes "--version")
-
--- the page that a word alone asks for
-abbrev pub WordPage : List ℕ → Page → Type 0
-WordPage word pages.All = IsHelpWord word
-WordPage word pages.Version = IsVersionWord word
-WordPage word _ = ⊥
+abbrev pub is_version : List ℕ → Bool
+is_version word = bytes_eq word (codes "version") || bytes_eq word (codes "--version")
 
 -- the page of a mode, by its word
-abbrev pub ModePage : List ℕ → Page → Type 0
-ModePage word pages.Trace = word ≡ codes "trace"
-ModePage word pages.Steps = word ≡ codes "steps"
-ModePage word pages.Otlp = word ≡ codes "otlp"
-ModePage word pages.Picture = word ≡ codes "picture"
-ModePage word pages.Svg = word ≡ codes "svg"
-ModePage word pages.View = word ≡ codes "view"
-ModePage word _ = ⊥
+unfoldable pub page_of_mode : List ℕ → Option Page
+page_of_mode word =
+    if bytes_eq word (codes "trace") then Some pages.Trace else
+    (if bytes_eq word (codes "steps") then Some pages.Steps else
+    (if bytes_eq word (codes "otlp") then Some pages.Otlp else
+    (if bytes_eq word (codes "picture") then Some pages.Picture else
+    (if bytes_eq word (codes "svg") then Some pages.Svg else
+    (if bytes_eq word (codes "view") then Some pages.View else None)))))
 
--- words that ask for a page: one for help or for the version, or one for help and that of a mode
-abbrev pub AsksForPage : List (List ℕ) → Page → Type 0
-AsksForPage [] page = ⊥
-AsksForPage (word ∷ []) page = WordPage word page
-AsksForPage (word ∷ mode ∷ []) page = IsHelpWord word × ModePage mode page
-AsksForPage (word ∷ mode ∷ other ∷ more) page = ⊥
+-- the page that the words after one for help ask for, and those after one for the version
+abbrev pub help_in : List (List ℕ) → Option Page
+help_in [] = Some pages.All
+help_in (mode ∷ []) = page_of_mode mode
+help_in (mode ∷ word ∷ words) = None
 
--- words that ask for no page
-abbrev pub AsksForNoPage : List (List ℕ) → Type 0
-AsksForNoPage words = (page : Page) → AsksForPage words page → ⊥
+abbrev pub version_in : List (List ℕ) → Option Page
+version_in [] = Some pages.Version
+version_in (word ∷ words) = None
 
--- the usage of the mode that a word names, of those whose text is not fixed
-pub record WordUsage (word text : List ℕ) : Type 0 where
-  pub otlp : word ≡ codes "otlp" → text ≡ OTLP_USAGE.now
-  pub picture : word ≡ codes "picture" → text ≡ PICTURE_USAGE.now
-  pub svg : word ≡ codes "svg" → text ≡ SVG_USAGE.now
-  pub view : word ≡ codes "view" → text ≡ VIEW_USAGE.now
-  pub other : word ≢ codes "otlp" → word ≢ codes "picture" → word ≢ codes "svg" → word ≢ codes "view"
-      → text ≡ usage_text
+-- the usage of the mode that a first word names, where its text is not fixed, or else that of the first two modes
+unfoldable pub usage_of : List ℕ → List ℕ
+usage_of word =
+    if bytes_eq word (codes "otlp") then OTLP_USAGE.now else
+    (if bytes_eq word (codes "picture") then PICTURE_USAGE.now else
+    (if bytes_eq word (codes "svg") then SVG_USAGE.now else
+    (if bytes_eq word (codes "view") then VIEW_USAGE.now else usage_text)))
 
--- the usage of the mode that the first word names, or else that of the first two modes
-abbrev pub IsUsage : List (List ℕ) → List ℕ → Type 0
-IsUsage [] text = text ≡ usage_text
-IsUsage (word ∷ after) text = WordUsage word text
+abbrev pub usage_in : List (List ℕ) → List ℕ
+usage_in [] = usage_text
+usage_in (word ∷ after) = usage_of word
 
 -- what is said of an attribute that does not read
 abbrev pub unread_text : List ℕ → List ℕ
 unread_text member = codes "cannot read the attribute: " ++ (member ++ 10 ∷ OTLP_USAGE.now)
-
--- what is said of words that ask for nothing: the usage, with the first attribute that does not read, if that is wrong
--- alone
-abbrev pub SaysUsage : List (List ℕ) → List ℕ → Type 0
-SaysUsage words text = ((member : List ℕ) × AsksUnread words member × (text ≡ unread_text member))
-    ⊎ (((member : List ℕ) → AsksUnread words member → ⊥) × IsUsage words text)
 
 -- a text was shown, by the status: whole at 0, and at 1 a beginning of it
 pub record ShowsText (before after : Option (List ℕ)) (text : List ℕ) (status : ℕ) : Type 0 where

@@ -1,22 +1,14 @@
 //! Views of traces, and how the program's arguments ask for one.
 
-ghost use Rattle.std.specs.Prelude.{◌≡◌, IfOk, MatchOption, map, string_bytes};
-ghost use Rattle.otel_trace_run.specs.AskedViews.{
-  AsksForNoView,
-  AsksView,
-  Chooses,
-  NamesView,
-  Narrows,
-  WordForm,
-};
-ghost use Rattle.otel_picture.specs.declared.choice.Choice.{Choice};
+ghost use Rattle.std.specs.Prelude.{◌≡◌, map, string_bytes};
+ghost use Rattle.otel_trace_run.specs.AskedViews.{chosen, form_in, narrowed, view_in, viewed};
+ghost use Rattle.otel_trace_run.specs.Words.{trace_id_in};
 
-use crate::mode::columns_of;
+use crate::mode::{columns_of, number_of};
 use crate::picture::PictureForm;
 use opentelemetry::TraceId;
 use otel_picture::choice::{Choice, EVERY};
 use otel_picture::layout::COLUMNS;
-use otel_trace_lines::fields::parse_decimal;
 
 /// What is written of traces, and of which.
 #[derive(Clone, Copy, Debug, PartialEq, Eq)]
@@ -36,64 +28,45 @@ pub enum ViewForm {
 /// The form where no word names one.
 const PLAIN_FORM: ViewForm = ViewForm::Picture(PictureForm::Text { columns: COLUMNS });
 
-/// The view that the arguments ask for; none where they ask for none.
-pub fn parse_view(words: &[String]) -> Option<View>
-    ensures { MatchOption result
-        (AsksForNoView (map string_bytes words.now))
-        (λ view. AsksView (map string_bytes words.now) view) }
+/// The view that the words after `view` ask for; none where they ask for none.
+pub(crate) fn view_of(words: &[String]) -> Option<View>
+    ensures { result ≡ view_in (map string_bytes words.now) }
 {
-    let (word, given) = words.split_first()?;
-    if word.as_str() != "view" {
-        return None;
-    }
-    view_of(given)
-}
-
-/// The view that the words after `view` name; none where they name none.
-fn view_of(given: &[String]) -> Option<View>
-    ensures { MatchOption result
-        ((view : View) → NamesView (map string_bytes given.now) view → ⊥)
-        (λ view. NamesView (map string_bytes given.now) view) }
-{
-    let Some((word, after)) = given.split_first() else {
-        return Some(View {
-            form: PLAIN_FORM,
-            choice: EVERY,
-        });
+    let Some((word, after)) = words.split_first() else {
+        return viewed(PLAIN_FORM, words);
     };
     if word.as_str().starts_with('-') {
-        let choice = choose(given, EVERY)?;
-        return Some(View {
-            form: PLAIN_FORM,
-            choice,
-        });
+        return viewed(PLAIN_FORM, words);
     }
-    let form = form_of_word(word.as_str())?;
-    let choice = choose(after, EVERY)?;
+    viewed(form_of(word.as_str())?, after)
+}
+
+/// A view in this form of what these words choose.
+fn viewed(form: ViewForm, words: &[String]) -> Option<View>
+    ensures { result ≡ viewed form (map string_bytes words.now) }
+{
+    let choice = choose(words, EVERY)?;
     Some(View { form, choice })
 }
 
 /// The form that a word names: `svg`, `json`, or a number of columns; none where it names none.
-fn form_of_word(word: &str) -> Option<ViewForm>
-    ensures { MatchOption result
-        ((form : ViewForm) → WordForm word.now form → ⊥)
-        (λ form. WordForm word.now form) }
+#[tactic(auto, unfolding(crate::specs::AskedViews::form_in))]
+fn form_of(word: &str) -> Option<ViewForm>
+    ensures { result ≡ form_in word.now }
 {
-    match word {
-        "svg" => Some(ViewForm::Picture(PictureForm::Svg)),
-        "json" => Some(ViewForm::Summary),
-        digits => {
-            let columns = columns_of(digits)?;
-            Some(ViewForm::Picture(PictureForm::Text { columns }))
-        }
+    if word == "svg" {
+        Some(ViewForm::Picture(PictureForm::Svg))
+    } else if word == "json" {
+        Some(ViewForm::Summary)
+    } else {
+        let columns = columns_of(word)?;
+        Some(ViewForm::Picture(PictureForm::Text { columns }))
     }
 }
 
 /// What words choose, after what was chosen before them; none where they choose nothing.
 fn choose(words: &[String], begun: Choice) -> Option<Choice>
-    ensures { MatchOption result
-        ((choice : Choice) → Chooses (map string_bytes words.now) begun choice → ⊥)
-        (λ choice. Chooses (map string_bytes words.now) begun choice) }
+    ensures { result ≡ chosen (map string_bytes words.now) begun }
 {
     let Some((word, after)) = words.split_first() else {
         return Some(begun);
@@ -108,30 +81,37 @@ fn choose(words: &[String], begun: Choice) -> Option<Choice>
         );
     }
     let (value, rest) = after.split_first()?;
-    choose(rest, narrowed(word.as_str(), value.as_str(), begun)?)
+    choose(rest, narrow(word.as_str(), value.as_str(), begun)?)
 }
 
-/// What a word and the one after it add to a choice; none where they add nothing.
-fn narrowed(word: &str, value: &str, begun: Choice) -> Option<Choice>
-    ensures { MatchOption result
-        ((choice : Choice) → Narrows word.now value.now begun choice → ⊥)
-        (λ choice. Narrows word.now value.now begun choice) }
+/// A choice with what a word and the one after it add; none where they add nothing.
+#[tactic(auto, unfolding(crate::specs::AskedViews::narrowed))]
+fn narrow(word: &str, value: &str, begun: Choice) -> Option<Choice>
+    ensures { result ≡ narrowed word.now value.now begun }
 {
-    match word {
-        "--slowest" => {
-            let count = parse_decimal(value)?;
-            Some(Choice {
-                slowest: Some(count as usize),
-                ..begun
-            })
-        }
-        "--trace" => match TraceId::from_hex(value) {
-            Ok(id) => Some(Choice {
-                trace_id: Some(id),
-                ..begun
-            }),
-            Err(_) => None,
-        },
-        _ => None,
+    if word == "--slowest" {
+        let count = number_of(value)? as usize;
+        Some(Choice {
+            slowest: Some(count),
+            ..begun
+        })
+    } else if word == "--trace" {
+        let id = trace_id_of(value)?;
+        Some(Choice {
+            trace_id: Some(id),
+            ..begun
+        })
+    } else {
+        None
+    }
+}
+
+/// The id that 32 digits 0-9 a-f write.
+fn trace_id_of(text: &str) -> Option<TraceId>
+    ensures { result ≡ trace_id_in text.now }
+{
+    match TraceId::from_hex(text) {
+        Ok(id) => Some(id),
+        Err(_) => None,
     }
 }

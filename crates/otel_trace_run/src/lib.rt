@@ -12,6 +12,7 @@ pub mod picture;
 pub mod program;
 pub mod provider;
 pub mod reason;
+pub mod request;
 pub mod run_end;
 mod step_stream;
 mod trace_stream;

@@ -1,24 +1,13 @@
 //! The modes of the program, and how its arguments ask for one.
 
-ghost use Rattle.std.specs.Prelude.{◌≡◌, List, MatchOption, ℕ, map, string_bytes};
-ghost use Rattle.otel_trace_run.specs.Arguments.{
-  Asks,
-  AsksForNothing,
-  AsksUnread,
-  GivesColumns,
-  NamesAsked,
-  NamesAskedGiven,
-  NamesEncoding,
-  NamesGiven,
-  NamesOtlp,
-  NamesProcessor,
-  NamesSizes,
-  NamesUnread,
-  WriteSizes,
-  WritesColumns,
-  plain_mode,
-};
+ghost use Rattle.std.specs.Prelude.{◌≡◌, map, option_and_then, option_copied, string_bytes};
+ghost use Rattle.std.specs.Option.{option_map};
+ghost use Rattle.otel_trace_run.specs.Arguments.{alone, asked_in, batch_in, columns_in, encoding_in, given_columns};
+ghost use Rattle.otel_trace_run.specs.Arguments.{mode_in, otlp_in, picture_in, plain_mode, processor_in, sizes_in};
+ghost use Rattle.otel_trace_run.specs.Arguments.{with_one};
 ghost use Rattle.otel_trace_run.specs.Program.{says_reasons};
+ghost use Rattle.otel_trace_run.specs.Requests.{GivenUnread};
+ghost use Rattle.otel_trace_run.specs.Words.{decimal_in};
 
 use crate::given_attributes::unread_member;
 use crate::picture::PictureForm;
@@ -47,6 +36,16 @@ impl Mode<'_> {
         match self {
             Mode::Trace(_) | Mode::Steps(_) => false,
             Mode::Otlp(_, _) | Mode::Picture(_, _) => true,
+        }
+    }
+
+    /// The first attribute that it is given and that does not read; none where each reads.
+    pub(crate) fn unread_attribute(&self) -> Option<&str>
+        ensures { GivenUnread (plain_mode self.now) (option_copied result) }
+    {
+        match self {
+            Mode::Otlp(_, given) => unread_member(*given),
+            _ => None,
         }
     }
 }
@@ -83,177 +82,130 @@ pub enum AskedProcessor {
     Batch { queue: usize, batch: usize },
 }
 
-/// What the arguments ask for; none where they ask for no mode.
-pub fn parse_mode(words: &[String]) -> Option<Mode<'_>>
-    ensures { MatchOption result
-        (AsksForNothing (map string_bytes words.now))
-        (λ mode. Asks (map string_bytes words.now) (plain_mode mode)) }
+/// The mode of a word and those after it; none where they ask for none.
+#[tactic(auto, unfolding(crate::specs::Arguments::mode_in))]
+pub(crate) fn mode_of<'w>(word: &str, after: &'w [String]) -> Option<Mode<'w>>
+    ensures { option_map plain_mode result ≡ mode_in word.now (map string_bytes after.now) }
 {
-    let (word, after) = words.split_first()?;
-    match word.as_str() {
-        "trace" => Some(Mode::Trace(parse_asked(after)?)),
-        "steps" => Some(Mode::Steps(parse_sizes(after)?)),
-        "otlp" => {
-            let (export, given) = parse_otlp(after)?;
-            Some(Mode::Otlp(export, given))
-        }
-        "picture" => {
-            let (asked, given) = parse_asked_and_given(after)?;
-            let columns = parse_columns(given)?;
-            Some(Mode::Picture(asked, PictureForm::Text { columns }))
-        }
-        "svg" => Some(Mode::Picture(parse_asked(after)?, PictureForm::Svg)),
-        _ => None,
+    if word == "trace" {
+        Some(Mode::Trace(asked_alone(after)?))
+    } else if word == "steps" {
+        Some(Mode::Steps(sizes_of(after)?))
+    } else if word == "otlp" {
+        otlp_of(after)
+    } else if word == "picture" {
+        picture_of(after)
+    } else if word == "svg" {
+        Some(Mode::Picture(asked_alone(after)?, PictureForm::Svg))
+    } else {
+        None
     }
 }
 
-/// What `SEED` and the words of a processor ask for; none where the words are others.
-fn parse_asked(words: &[String]) -> Option<Asked>
-    ensures { MatchOption result
-        ((asked : Asked) → NamesAsked (map string_bytes words.now) asked → ⊥)
-        (λ asked. NamesAsked (map string_bytes words.now) asked) }
+/// A mode whose batches are written: maybe an encoding, `SEED`, a processor, and maybe an attributes string.
+fn otlp_of(words: &[String]) -> Option<Mode<'_>>
+    ensures { option_map plain_mode result ≡ otlp_in (map string_bytes words.now) }
 {
-    match words {
-        [seed, kind @ ..] => Some(Asked {
-            seed: parse_decimal(seed.as_str())?,
-            processor: parse_processor(kind)?,
-        }),
-        _ => None,
-    }
+    let (encoding, after) = encoding_of(words);
+    let (asked, given) = asked_with_one(after)?;
+    Some(Mode::Otlp(AskedExport { encoding, asked }, given))
 }
 
-/// The same, where one more word may stand after them, which it gives too.
-fn parse_asked_and_given(words: &[String]) -> Option<(Asked, &[String])>
-    ensures { MatchOption result
-        ((asked : Asked) (given : List (List ℕ)) → NamesAskedGiven (map string_bytes words.now) asked given → ⊥)
-        (λ found. NamesAskedGiven (map string_bytes words.now) found.0 (map string_bytes found.1.now)) }
+/// A mode whose spans are drawn as text: `SEED`, a processor, and maybe how many columns there are.
+fn picture_of(words: &[String]) -> Option<Mode<'_>>
+    ensures { option_map plain_mode result ≡ picture_in (map string_bytes words.now) }
 {
-    match words {
-        [seed, after @ ..] => match processor_and_rest(after) {
-            Some((processor, given)) => {
-                let seed = parse_decimal(seed.as_str())?;
-                Some((Asked { seed, processor }, given))
-            }
-            None => None,
-        },
-        _ => None,
-    }
+    let (asked, given) = asked_with_one(words)?;
+    let columns = given_columns(given)?;
+    Some(Mode::Picture(asked, PictureForm::Text { columns }))
 }
 
-/// The encoding that the first of these words asks for, JSON where it asks for none, and the words after it.
-fn encoding_and_rest(words: &[String]) -> (Encoding, &[String])
-    ensures { NamesEncoding (map string_bytes words.now) result.0 (map string_bytes result.1.now) }
+/// The encoding that the first of these words names, JSON where it names none, and the words after it.
+fn encoding_of(words: &[String]) -> (Encoding, &[String])
+    ensures { (result.0, map string_bytes result.1.now) ≡ encoding_in (map string_bytes words.now) }
 {
-    match words {
-        [word, after @ ..] if word.as_str() == "protobuf" => (Encoding::Protobuf, after),
+    match words.split_first() {
+        Some((word, after)) if word.as_str() == "protobuf" => (Encoding::Protobuf, after),
         _ => (Encoding::Json, words),
     }
 }
 
-/// The same and what is asked for after it, where each attribute reads of the string that is given.
-fn parse_otlp(words: &[String]) -> Option<(AskedExport, &[String])>
-    ensures { MatchOption result
-        ((export : AskedExport) (given : List (List ℕ)) → NamesOtlp (map string_bytes words.now) export given → ⊥)
-        (λ found. NamesOtlp (map string_bytes words.now) found.0 (map string_bytes found.1.now)) }
+/// What `SEED` and a processor ask for, where no word stands after them.
+fn asked_alone(words: &[String]) -> Option<Asked>
+    ensures { result ≡ option_and_then alone (asked_in (map string_bytes words.now)) }
 {
-    let (encoding, after) = encoding_and_rest(words);
-    let (asked, given) = parse_asked_and_given(after)?;
-    match unread_member(given) {
-        Some(_) => None,
-        None => Some((AskedExport { encoding, asked }, given)),
+    let (asked, after) = asked_of(words)?;
+    if after.is_empty() { Some(asked) } else { None }
+}
+
+/// The same, where one word at most stands after them, and that word.
+fn asked_with_one(words: &[String]) -> Option<(Asked, &[String])>
+    ensures { option_map (λ found. (found.0, map string_bytes found.1.now)) result
+        ≡ option_and_then with_one (asked_in (map string_bytes words.now)) }
+{
+    let (asked, after) = asked_of(words)?;
+    if after.len() < 2 {
+        Some((asked, after))
+    } else {
+        None
     }
 }
 
-/// The first attribute that does not read, of words that would else ask for the mode `otlp`.
-pub(crate) fn unread_attribute(words: &[String]) -> Option<&str>
-    ensures { MatchOption result
-        ((member : List ℕ) → AsksUnread (map string_bytes words.now) member → ⊥)
-        (λ member. AsksUnread (map string_bytes words.now) member.now) }
+/// What `SEED` and a processor ask for, and the words after them.
+fn asked_of(words: &[String]) -> Option<(Asked, &[String])>
+    ensures { option_map (λ found. (found.0, map string_bytes found.1.now)) result
+        ≡ asked_in (map string_bytes words.now) }
 {
-    match words {
-        [word, after @ ..] if word.as_str() == "otlp" => unread_after(after),
-        _ => None,
+    let (seed, kind) = words.split_first()?;
+    let seed = number_of(seed.as_str())?;
+    let (processor, after) = processor_of(kind)?;
+    Some((Asked { seed, processor }, after))
+}
+
+/// The processor of `simple` or `batch Q B`, and the words after it.
+fn processor_of(words: &[String]) -> Option<(AskedProcessor, &[String])>
+    ensures { option_map (λ found. (found.0, map string_bytes found.1.now)) result
+        ≡ processor_in (map string_bytes words.now) }
+{
+    let (kind, after) = words.split_first()?;
+    if kind.as_str() == "simple" {
+        Some((AskedProcessor::Simple, after))
+    } else if kind.as_str() == "batch" {
+        batch_of(after)
+    } else {
+        None
     }
 }
 
-/// The same of the words after that of the mode.
-fn unread_after(words: &[String]) -> Option<&str>
-    ensures { MatchOption result
-        ((member : List ℕ) → NamesUnread (map string_bytes words.now) member → ⊥)
-        (λ member. NamesUnread (map string_bytes words.now) member.now) }
+/// The processor of the sizes `Q B`, and the words after them.
+fn batch_of(words: &[String]) -> Option<(AskedProcessor, &[String])>
+    ensures { option_map (λ found. (found.0, map string_bytes found.1.now)) result
+        ≡ batch_in (map string_bytes words.now) }
 {
-    let (_, after) = encoding_and_rest(words);
-    let (_, given) = parse_asked_and_given(after)?;
-    unread_member(given)
+    let (queue, rest) = words.split_first()?;
+    let (batch, after) = rest.split_first()?;
+    let queue = number_of(queue.as_str())? as usize;
+    let batch = number_of(batch.as_str())? as usize;
+    Some((AskedProcessor::Batch { queue, batch }, after))
 }
 
-/// The processor of `simple` or `batch Q B`; none where the words are others.
-fn parse_processor(words: &[String]) -> Option<AskedProcessor>
-    ensures { MatchOption result
-        ((asked : AskedProcessor) → NamesProcessor (map string_bytes words.now) asked → ⊥)
-        (λ asked. NamesProcessor (map string_bytes words.now) asked) }
+/// The sizes of `Q B P`.
+fn sizes_of(words: &[String]) -> Option<Sizes>
+    ensures { result ≡ sizes_in (map string_bytes words.now) }
 {
     match words {
-        [kind] if kind.as_str() == "simple" => Some(AskedProcessor::Simple),
-        [kind, queue, batch] if kind.as_str() == "batch" => Some(AskedProcessor::Batch {
-            queue: parse_decimal(queue.as_str())? as usize,
-            batch: parse_decimal(batch.as_str())? as usize,
+        [queue, batch, producers] => Some(Sizes {
+            queue: number_of(queue.as_str())? as usize,
+            batch: number_of(batch.as_str())? as usize,
+            producers: number_of(producers.as_str())? as usize,
         }),
         _ => None,
     }
 }
 
-/// The processor that is named, and after it one more word at most; none where the words are others.
-fn processor_and_rest(words: &[String]) -> Option<(AskedProcessor, &[String])>
-    ensures { MatchOption result
-        ((asked : AskedProcessor) (given : List (List ℕ)) → NamesGiven (map string_bytes words.now) asked given → ⊥)
-        (λ found. NamesGiven (map string_bytes words.now) found.0 (map string_bytes found.1.now)) }
-{
-    match words {
-        [kind, given @ ..] if kind.as_str() == "simple" && given.len() < 2 => {
-            Some((AskedProcessor::Simple, given))
-        }
-        [kind, queue, batch, given @ ..] if kind.as_str() == "batch" && given.len() < 2 => {
-            let queue = parse_decimal(queue.as_str())? as usize;
-            let batch = parse_decimal(batch.as_str())? as usize;
-            Some((AskedProcessor::Batch { queue, batch }, given))
-        }
-        _ => None,
-    }
-}
-
-/// The sizes of `Q B P`; none where the words are others.
-fn parse_sizes(words: &[String]) -> Option<Sizes>
-    ensures { MatchOption result
-        ((sizes : Sizes) → NamesSizes (map string_bytes words.now) sizes → ⊥)
-        (λ sizes. NamesSizes (map string_bytes words.now) sizes) }
-{
-    match words {
-        [queue, batch, producers] => {
-            sizes_in(queue.as_str(), batch.as_str(), producers.as_str())
-        }
-        _ => None,
-    }
-}
-
-/// The sizes that three numbers write; none where one is no number.
-fn sizes_in(queue: &str, batch: &str, producers: &str) -> Option<Sizes>
-    ensures { MatchOption result
-        ((sizes : Sizes) → WriteSizes queue.now batch.now producers.now sizes → ⊥)
-        (λ sizes. WriteSizes queue.now batch.now producers.now sizes) }
-{
-    Some(Sizes {
-        queue: parse_decimal(queue)? as usize,
-        batch: parse_decimal(batch)? as usize,
-        producers: parse_decimal(producers)? as usize,
-    })
-}
-
 /// The columns that the first word gives, or 72 where there is none; none where it gives none.
-fn parse_columns(given: &[String]) -> Option<u32>
-    ensures { MatchOption result
-        ((columns : ℕ) → GivesColumns (map string_bytes given.now) columns → ⊥)
-        (λ columns. GivesColumns (map string_bytes given.now) columns) }
+fn given_columns(given: &[String]) -> Option<u32>
+    ensures { result ≡ given_columns (map string_bytes given.now) }
 {
     match given {
         [] => Some(COLUMNS),
@@ -261,15 +213,20 @@ fn parse_columns(given: &[String]) -> Option<u32>
     }
 }
 
-/// The columns that a word gives; none where it gives none.
+/// The columns that a word writes, from 20 to 400.
 pub(crate) fn columns_of(digits: &str) -> Option<u32>
-    ensures { MatchOption result
-        ((columns : ℕ) → WritesColumns digits.now columns → ⊥)
-        (λ columns. WritesColumns digits.now columns) }
+    ensures { result ≡ columns_in digits.now }
 {
-    let number = parse_decimal(digits)?;
+    let number = number_of(digits)?;
     if number < 20 || number > 400 {
         return None;
     }
     Some(number as u32)
+}
+
+/// The number of 64 bits that decimal digits alone write.
+pub(crate) fn number_of(word: &str) -> Option<u64>
+    ensures { result ≡ decimal_in word.now }
+{
+    parse_decimal(word)
 }

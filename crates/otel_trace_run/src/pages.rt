@@ -1,17 +1,9 @@
 //! What the program says of itself: the help of all modes, that of one, and its version; and what it says of arguments
 //! that ask for nothing.
 
-ghost use Rattle.std.specs.Prelude.{◌≡◌, IsTrue, MatchOption, ◌↔◌, map, string_bytes};
-ghost use Rattle.otel_trace_run.specs.Pages.{
-  AsksForNoPage,
-  AsksForPage,
-  IsHelpWord,
-  ModePage,
-  IsUsage,
-  WordPage,
-  WordUsage,
-  page_text,
-};
+ghost use Rattle.std.specs.Prelude.{◌≡◌, map, string_bytes};
+ghost use Rattle.otel_trace_run.specs.Pages.{help_in, is_help, is_version, page_of_mode, page_text, usage_in, usage_of};
+ghost use Rattle.otel_trace_run.specs.Pages.{version_in};
 
 /// What may be asked of the program about itself.
 #[derive(Clone, Copy, Debug, PartialEq, Eq)]
@@ -128,42 +120,47 @@ pub(crate) fn text_of(page: Page) -> &'static str
     }
 }
 
-/// The page that the arguments ask for; none where they ask for none.
-pub fn parse_page(words: &[String]) -> Option<Page>
-    ensures { MatchOption result
-        (AsksForNoPage (map string_bytes words.now))
-        (λ page. AsksForPage (map string_bytes words.now) page) }
+/// Whether a word asks for help.
+pub(crate) fn is_help(word: &str) -> bool
+    ensures { result ≡ is_help word.now }
+{
+    word == "help" || word == "--help" || word == "-h"
+}
+
+/// Whether a word asks for the version.
+pub(crate) fn is_version(word: &str) -> bool
+    ensures { result ≡ is_version word.now }
+{
+    word == "version" || word == "--version"
+}
+
+/// The page that the words after one for help ask for; none where they ask for none.
+pub(crate) fn help_of(words: &[String]) -> Option<Page>
+    ensures { result ≡ help_in (map string_bytes words.now) }
 {
     match words {
-        [word] => page_of_word(word.as_str()),
-        [word, mode] => page_of_mode(word.as_str(), mode.as_str()),
+        [] => Some(Page::All),
+        [mode] => page_of_mode(mode.as_str()),
         _ => None,
     }
 }
 
-/// The page that one word asks for; none where it asks for none.
-fn page_of_word(word: &str) -> Option<Page>
-    ensures { MatchOption result
-        ((page : Page) → WordPage word.now page → ⊥)
-        (λ page. WordPage word.now page) }
+/// The version, where no word stands after the one that asks for it.
+pub(crate) fn version_of(words: &[String]) -> Option<Page>
+    ensures { result ≡ version_in (map string_bytes words.now) }
+{
+    match words {
+        [] => Some(Page::Version),
+        _ => None,
+    }
+}
+
+/// The page of a mode, by its word; none where that is another word.
+#[tactic(auto, unfolding(crate::specs::Pages::page_of_mode))]
+fn page_of_mode(word: &str) -> Option<Page>
+    ensures { result ≡ page_of_mode word.now }
 {
     match word {
-        "help" | "--help" | "-h" => Some(Page::All),
-        "version" | "--version" => Some(Page::Version),
-        _ => None,
-    }
-}
-
-/// The page that a word for help and that of a mode ask for; none where they are other words.
-fn page_of_mode(word: &str, mode: &str) -> Option<Page>
-    ensures { MatchOption result
-        ((page : Page) → IsHelpWord word.now → ModePage mode.now page → ⊥)
-        (λ page. IsHelpWord word.now × ModePage mode.now page) }
-{
-    if !is_help_word(word) {
-        return None;
-    }
-    match mode {
         "trace" => Some(Page::Trace),
         "steps" => Some(Page::Steps),
         "otlp" => Some(Page::Otlp),
@@ -174,20 +171,10 @@ fn page_of_mode(word: &str, mode: &str) -> Option<Page>
     }
 }
 
-/// Whether a word asks for help.
-fn is_help_word(word: &str) -> bool
-    ensures { IsTrue result ↔ IsHelpWord word.now }
-{
-    match word {
-        "help" | "--help" | "-h" => true,
-        _ => false,
-    }
-}
-
 /// The usage of the mode that the first of these words names, where that is one of the program's own, or else that of
 /// the first two modes.
 pub(crate) fn usage_for(words: &[String]) -> &'static str
-    ensures { IsUsage (map string_bytes words.now) result.now }
+    ensures { result.now ≡ usage_in (map string_bytes words.now) }
 {
     match words {
         [word, ..] => usage_of(word.as_str()),
@@ -196,8 +183,9 @@ pub(crate) fn usage_for(words: &[String]) -> &'static str
 }
 
 /// The usage of the mode of a word.
+#[tactic(auto, unfolding(crate::specs::Pages::usage_of))]
 fn usage_of(word: &str) -> &'static str
-    ensures { WordUsage word.now result.now }
+    ensures { result.now ≡ usage_of word.now }
 {
     match word {
         "otlp" => OTLP_USAGE,

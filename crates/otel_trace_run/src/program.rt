@@ -1,39 +1,22 @@
 //! What the program does with its arguments and its three streams. It feeds its lines to one session as they come and
 //! closes that, or has them step one batch queue, and at the end says what was wrong.
 
-ghost use Rattle.std.specs.Prelude.{◌≡◌, ◌≢◌, ◌⊎◌, ◌≤◌, List, ℕ, map, string_bytes, true};
+ghost use Rattle.std.specs.Prelude.{◌≡◌, ◌⊎◌, List, ℕ, map, string_bytes, true};
 ghost use Rattle.std.specs.Io.KnownBytes.{Appends};
-ghost use Rattle.otel_trace_run.specs.Arguments.{
-  Asks,
-  AsksForNothing,
-  PlainMode,
-  bad_line_text,
-  otlp,
-  picture,
-  plain_mode,
-  trace,
-};
-ghost use Rattle.otel_trace_run.specs.AskedViews.{AsksForNoView, AsksView};
-ghost use Rattle.otel_trace_run.specs.Pages.{
-  AsksForNoPage,
-  AsksForPage,
-  SaysUsage,
-  ShowsText,
-  page_text,
-  unread_text,
-};
-ghost use Rattle.otel_trace_run.specs.Program.{Runs, RunsTo};
+ghost use Rattle.otel_trace_run.specs.Arguments.{bad_line_text, otlp, picture, plain_mode, trace};
+ghost use Rattle.otel_trace_run.specs.Pages.{ShowsText, unread_text};
+ghost use Rattle.otel_trace_run.specs.Program.{RunsTo};
 ghost use Rattle.otel_trace_run.specs.Reasons.{IsFault};
+ghost use Rattle.otel_trace_run.specs.Requests.{Does, effects, mode, request_in};
 ghost use Rattle.otel_trace_run.specs.Streams.{Reports, streams};
-ghost use Rattle.otel_trace_run.specs.Views.{Views};
 
-use crate::asked_view::{View, parse_view};
-use crate::mode::{Asked, AskedExport, Mode, parse_mode, unread_attribute};
+use crate::mode::{Asked, AskedExport, Mode};
 use crate::otlp::{export_input, resource_of};
-use crate::pages::{OTLP_USAGE, Page, parse_page, text_of, usage_for};
+use crate::pages::{OTLP_USAGE, text_of};
 use crate::picture::{PictureForm, SpanPainter, draw_input};
 use crate::provider::{SessionProvider, TraceProvider, make_provider};
 use crate::reason::{Reason, text_of as reason_text_of};
+use crate::request::{Request, request_of};
 use crate::run_end::RunEnd;
 use crate::step_stream::step_input;
 use crate::trace_stream::trace_input;
@@ -66,38 +49,42 @@ pub fn run_program<R: Read, W: Write, F: Write>(
     output: &mut W,
     faults: &mut F,
 ) -> u8
-    ensures usage { (result ≤ 2) × (AsksForNothing (map string_bytes words.now)
-        → AsksForNoPage (map string_bytes words.now) → AsksForNoView (map string_bytes words.now)
-        → (input.new ≡ input.old) × (output.new ≡ output.old) × (result ≢ 0)
-        × (result ≡ 2 → (text : List ℕ) × SaysUsage (map string_bytes words.now) text
-        × Appends (F.contents faults.old) (F.contents faults.new) text)) }
-    ensures shows { (asked : Page) → AsksForPage (map string_bytes words.now) asked
-        → (input.new ≡ input.old) × (faults.new ≡ faults.old)
-        × ((page : Page) × AsksForPage (map string_bytes words.now) page
-        × ShowsText (W.contents output.old) (W.contents output.new) (page_text page) result) }
-    ensures runs { (mode : PlainMode) → Asks (map string_bytes words.now) mode → Runs
-        ⟦<TraceProvider as SessionProvider>⟧.calls ⟦<PictureForm as SpanPainter>⟧.paints mode
+    ensures { Does
+        ⟦<TraceProvider as SessionProvider>⟧.calls ⟦<PictureForm as SpanPainter>⟧.paints
+        (request_in (map string_bytes words.now))
         (streams (R.remaining input.old) (R.remaining input.new) (W.contents output.old) (W.contents output.new))
-        (faults.new ≡ faults.old) (Appends (F.contents faults.old) (F.contents faults.new)) result }
-    ensures views { (view : View) → AsksView (map string_bytes words.now) view
-        → (found : View) × AsksView (map string_bytes words.now) found × Views found
-        (streams (R.remaining input.old) (R.remaining input.new) (W.contents output.old) (W.contents output.new))
-        (faults.new ≡ faults.old) (Appends (F.contents faults.old) (F.contents faults.new)) result }
+        (effects (input.new ≡ input.old) (output.new ≡ output.old) (faults.new ≡ faults.old)
+        (Appends (F.contents faults.old) (F.contents faults.new))) result }
 {
-    if let Some(page) = parse_page(words) {
-        return show(text_of(page), output);
+    match request_of(words) {
+        Request::Page(page) => show(text_of(page), output),
+        Request::View(view) => view_input(alloc, view, input, output, faults),
+        Request::Mode(mode) => start_mode(alloc, mode, input, output, faults),
+        Request::Nothing(usage) => refuse(faults, usage),
     }
-    if let Some(view) = parse_view(words) {
-        return view_input(alloc, view, input, output, faults);
+}
+
+/// Runs a mode and says what was wrong, or names an attribute that it was given and that does not read.
+fn start_mode<R: Read, W: Write, F: Write>(
+    alloc: Global,
+    asked: Mode,
+    input: &mut R,
+    output: &mut W,
+    faults: &mut F,
+) -> u8
+    ensures { Does
+        ⟦<TraceProvider as SessionProvider>⟧.calls ⟦<PictureForm as SpanPainter>⟧.paints
+        (mode (plain_mode asked.entry))
+        (streams (R.remaining input.old) (R.remaining input.new) (W.contents output.old) (W.contents output.new))
+        (effects (input.new ≡ input.old) (output.new ≡ output.old) (faults.new ≡ faults.old)
+        (Appends (F.contents faults.old) (F.contents faults.new))) result }
+{
+    if let Some(member) = asked.unread_attribute() {
+        return name_attribute(alloc, member, faults);
     }
-    match parse_mode(words) {
-        None => refuse_words(alloc, words, faults),
-        Some(mode) => {
-            let says_reasons = mode.says_reasons();
-            let end = run_mode(alloc, mode, input, output);
-            status_of(alloc, end, says_reasons, faults)
-        }
-    }
+    let says_reasons = asked.says_reasons();
+    let end = run_mode(alloc, asked, input, output);
+    status_of(alloc, end, says_reasons, faults)
 }
 
 /// Writes a text that was asked for, and answers the status for it.
@@ -206,8 +193,8 @@ fn status_of<F: Write>(alloc: Global, end: RunEnd, says_reasons: bool, faults: &
 
 /// Writes what was wrong, and answers the status for it.
 fn refuse<F: Write>(faults: &mut F, text: &str) -> u8
-    ensures status { (result ≡ 1) ⊎ (result ≡ 2) }
-    ensures written { result ≡ 2 → Appends (F.contents faults.old) (F.contents faults.new) text.now }
+    ensures { (result ≡ 1)
+        ⊎ ((result ≡ 2) × Appends (F.contents faults.old) (F.contents faults.new) text.now) }
 {
     if write_whole(faults, text.as_bytes()).is_err() {
         return FAILED;
@@ -215,23 +202,10 @@ fn refuse<F: Write>(faults: &mut F, text: &str) -> u8
     REFUSED
 }
 
-/// Says what is wrong with words that ask for nothing, and answers the status for it.
-fn refuse_words<F: Write>(alloc: Global, words: &[String], faults: &mut F) -> u8
-    ensures status { (result ≡ 1) ⊎ (result ≡ 2) }
-    ensures written { result ≡ 2 → (text : List ℕ) × SaysUsage (map string_bytes words.now) text
-        × Appends (F.contents faults.old) (F.contents faults.new) text }
-{
-    match unread_attribute(words) {
-        Some(member) => name_attribute(alloc, member, faults),
-        None => refuse(faults, usage_for(words)),
-    }
-}
-
 /// Names an attribute that does not read, and answers the status for it.
 fn name_attribute<F: Write>(alloc: Global, member: &str, faults: &mut F) -> u8
-    ensures status { (result ≡ 1) ⊎ (result ≡ 2) }
-    ensures written { result ≡ 2
-        → Appends (F.contents faults.old) (F.contents faults.new) (unread_text member.now) }
+    ensures { (result ≡ 1)
+        ⊎ ((result ≡ 2) × Appends (F.contents faults.old) (F.contents faults.new) (unread_text member.now)) }
 {
     match format!(in alloc; "cannot read the attribute: {member}\n{OTLP_USAGE}") {
         Ok(text) => refuse(faults, text.as_str()),
@@ -241,8 +215,8 @@ fn name_attribute<F: Write>(alloc: Global, member: &str, faults: &mut F) -> u8
 
 /// Names a bad line, and answers the status for it.
 fn name_bad_line<F: Write>(alloc: Global, line: u64, faults: &mut F) -> u8
-    ensures status { (result ≡ 1) ⊎ (result ≡ 2) }
-    ensures written { result ≡ 2 → Appends (F.contents faults.old) (F.contents faults.new) (bad_line_text line) }
+    ensures { (result ≡ 1)
+        ⊎ ((result ≡ 2) × Appends (F.contents faults.old) (F.contents faults.new) (bad_line_text line)) }
 {
     match format!(in alloc; "line {line}: cannot read\n") {
         Ok(text) => refuse(faults, text.as_str()),
