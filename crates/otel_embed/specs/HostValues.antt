@@ -1,8 +1,8 @@
 -- What a host hands in: the values of attributes, the kinds and statuses of spans, scopes and errors.
 use Rattle.std.specs.Prelude.{◌≡◌, ◌==◌, ℕ, Bool, List, [], ◌∷◌, Option, Some, None, length, map, not}
 use Rattle.std.specs.List.{flat_map}
-use Rattle.opentelemetry.specs.Plain.{PlainScope, PlainStatus, PlainValue, boolean, integer, text, booleans, integers}
-use Rattle.opentelemetry.specs.Plain.{error, ok, texts, unset}
+use Rattle.opentelemetry.specs.Plain.{PlainScope, PlainStatus, PlainValue, boolean, double, integer, text}
+use Rattle.opentelemetry.specs.Plain.{booleans, doubles, error, integers, ok, texts, unset}
 use Rattle.opentelemetry.specs.declared.trace.span_kind.SpanKind.{SpanKind}
 use Rattle.otel_otlp.specs.OtlpSpan.{kind_number}
 use Rattle.otel_pipeline.specs.Exceptions.{PlainException}
@@ -22,10 +22,12 @@ truth_of byte = not (byte == 0)
 abbrev pub IsValueOf : HostValue → PlainValue → Type 0
 IsValueOf (host.Text bytes) value = value ≡ text bytes.now
 IsValueOf (host.Integer number) value = value ≡ integer number
+IsValueOf (host.Float number) value = value ≡ double number
 IsValueOf (host.Truth truth) value = value ≡ boolean truth
 IsValueOf (host.Texts bytes lengths) value =
     (made : List (List ℕ)) × AreTexts bytes.now lengths.now made × (value ≡ texts made)
 IsValueOf (host.Integers numbers) value = value ≡ integers numbers.now
+IsValueOf (host.Floats numbers) value = value ≡ doubles numbers.now
 IsValueOf (host.Truths bytes) value = value ≡ booleans (map truth_of bytes.now)
 
 -- the kind of a number, as the OpenTelemetry protocol counts them

@@ -15,10 +15,12 @@ use std::alloc::{AllocError, Global};
 pub enum HostValue<'a> {
     Text(&'a [u8]),
     Integer(i64),
+    Float(f64),
     Truth(bool),
     /// Texts that stand one after another, and how many bytes each has.
     Texts { texts: &'a [u8], lengths: &'a [u64] },
     Integers(&'a [i64]),
+    Floats(&'a [f64]),
     /// 0 is false, and every other number true.
     Truths(&'a [u8]),
 }
@@ -62,11 +64,17 @@ fn value_of(alloc: Global, value: HostValue<'_>) -> Result<Value, PipelineError>
     match value {
         HostValue::Text(bytes) => Ok(Value::String(text_of(alloc, bytes)?)),
         HostValue::Integer(number) => Ok(Value::I64(number)),
+        HostValue::Float(number) => Ok(Value::F64(number)),
         HostValue::Truth(truth) => Ok(Value::Bool(truth)),
         HostValue::Texts { texts, lengths } => {
             Ok(Value::Array(Array::String(texts_of(alloc, texts, lengths)?)))
         }
-        HostValue::Integers(numbers) => Ok(Value::Array(Array::I64(integers_of(alloc, numbers)?))),
+        HostValue::Integers(numbers) => Ok(Value::Array(Array::I64(Vec::from_slice(
+            alloc, numbers,
+        )?))),
+        HostValue::Floats(numbers) => Ok(Value::Array(Array::F64(Vec::from_slice(
+            alloc, numbers,
+        )?))),
         HostValue::Truths(bytes) => Ok(Value::Array(Array::Bool(truths_of(alloc, bytes)?))),
     }
 }
@@ -92,14 +100,6 @@ fn texts_of(alloc: Global, bytes: &[u8], lengths: &[u64]) -> Result<Vec<String>,
     } else {
         Err(PipelineError::BadArgument)
     }
-}
-
-fn integers_of(alloc: Global, numbers: &[i64]) -> Result<Vec<i64>, AllocError>
-    ensures { IfOk result (λ made. made.items ≡ numbers.now) }
-{
-    let mut made = Vec::new(alloc);
-    made.extend_from_slice(numbers)?;
-    Ok(made)
 }
 
 fn truths_of(alloc: Global, bytes: &[u8]) -> Result<Vec<bool>, AllocError>
