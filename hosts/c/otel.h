@@ -93,17 +93,21 @@ uint32_t otel_tracer(otel_handle *handle, const uint8_t *name, size_t name_lengt
 
 /* Attributes of what comes next: they are gathered, in their order, and taken by the next otel_start,
    otel_start_remote, otel_set_attributes, otel_add_event, otel_add_link or otel_add_remote_link, whatever that answers.
-   The values of a list of texts stand one after another in `values`, and `lengths` has the length of each. A truth
-   value is 0 for false, and true else. Lengths that are
-   not those of all the bytes are OTEL_BAD_ARGUMENT. To forget what was gathered, call otel_set_attributes for span 0. */
+   The values of a list of texts stand one after another in `values`, and `lengths` has the length of each. Lengths that
+   are not those of all the bytes are OTEL_BAD_ARGUMENT. A float may be any, NaN and the infinities too; of a NaN
+   neither sign nor payload is kept. A truth value is 0 for false, and true else. To forget what was gathered, call
+   otel_set_attributes for span 0. */
 uint32_t otel_with_text(otel_handle *handle, const uint8_t *key, size_t key_length, const uint8_t *value,
                         size_t value_length);
 uint32_t otel_with_integer(otel_handle *handle, const uint8_t *key, size_t key_length, int64_t value);
+uint32_t otel_with_float(otel_handle *handle, const uint8_t *key, size_t key_length, double value);
 uint32_t otel_with_bool(otel_handle *handle, const uint8_t *key, size_t key_length, uint32_t value);
 uint32_t otel_with_texts(otel_handle *handle, const uint8_t *key, size_t key_length, const uint8_t *values,
                          size_t values_length, const uint64_t *lengths, size_t count);
 uint32_t otel_with_integers(otel_handle *handle, const uint8_t *key, size_t key_length, const int64_t *values,
                             size_t count);
+uint32_t otel_with_floats(otel_handle *handle, const uint8_t *key, size_t key_length, const double *values,
+                          size_t count);
 uint32_t otel_with_bools(otel_handle *handle, const uint8_t *key, size_t key_length, const uint8_t *values,
                          size_t count);
 
@@ -128,6 +132,7 @@ uint32_t otel_identity(otel_handle *handle, uint64_t span, otel_span_identity *i
 uint32_t otel_set_text(otel_handle *handle, uint64_t span, const uint8_t *key, size_t key_length, const uint8_t *value,
                        size_t value_length);
 uint32_t otel_set_integer(otel_handle *handle, uint64_t span, const uint8_t *key, size_t key_length, int64_t value);
+uint32_t otel_set_float(otel_handle *handle, uint64_t span, const uint8_t *key, size_t key_length, double value);
 uint32_t otel_set_bool(otel_handle *handle, uint64_t span, const uint8_t *key, size_t key_length, uint32_t value);
 /* Sets the attributes that were gathered. */
 uint32_t otel_set_attributes(otel_handle *handle, uint64_t span);

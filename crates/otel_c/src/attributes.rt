@@ -1,7 +1,7 @@
 //! Attributes that are gathered for what comes next.
 
 ghost use Rattle.std.specs.Prelude.{◌≡◌, ◌≢◌, ◌==◌, List, map, not};
-ghost use Rattle.opentelemetry.specs.Plain.{boolean, booleans, integer, integers, text, texts};
+ghost use Rattle.opentelemetry.specs.Plain.{boolean, booleans, double, doubles, integer, integers, text, texts};
 ghost use Rattle.otel_c.specs.Handles.{Gathers, Turns, TurnsIfOpen};
 ghost use Rattle.otel_embed.specs.HostValues.{AreTexts, IsValueOf, truth_of};
 
@@ -56,6 +56,16 @@ pub extern "C" fn otel_with_integer(
 }
 
 #[unsafe(no_mangle)]
+pub extern "C" fn otel_with_float(alloc: Global, handle: &mut Handle, key: &[u8], value: f64) -> u32
+    ensures ok { result ≡ 0 → Turns (Gathers key.now (λ made. made ≡ double value))
+        handle.old.held.pipeline handle.new.held.pipeline }
+    ensures stays { result ≢ 0 → TurnsIfOpen (λ p q. q.inside ≡ p.inside)
+        handle.old.held.pipeline handle.new.held.pipeline }
+{
+    gather(alloc, handle, key, HostValue::Float(value))
+}
+
+#[unsafe(no_mangle)]
 pub extern "C" fn otel_with_bool(alloc: Global, handle: &mut Handle, key: &[u8], value: u32) -> u32
     ensures ok { result ≡ 0 → Turns (Gathers key.now (λ made. made ≡ boolean (not (value == 0))))
         handle.old.held.pipeline handle.new.held.pipeline }
@@ -99,6 +109,21 @@ pub extern "C" fn otel_with_integers(
         handle.old.held.pipeline handle.new.held.pipeline }
 {
     gather(alloc, handle, key, HostValue::Integers(values))
+}
+
+#[unsafe(no_mangle)]
+pub extern "C" fn otel_with_floats(
+    alloc: Global,
+    handle: &mut Handle,
+    key: &[u8],
+    values: &[f64],
+) -> u32
+    ensures ok { result ≡ 0 → Turns (Gathers key.now (λ made. made ≡ doubles values.now))
+        handle.old.held.pipeline handle.new.held.pipeline }
+    ensures stays { result ≢ 0 → TurnsIfOpen (λ p q. q.inside ≡ p.inside)
+        handle.old.held.pipeline handle.new.held.pipeline }
+{
+    gather(alloc, handle, key, HostValue::Floats(values))
 }
 
 #[unsafe(no_mangle)]

@@ -2,7 +2,7 @@
 
 ghost use Rattle.std.specs.Prelude.{◌≡◌, ◌≢◌, ◌==◌, ◌≤◌, ◌∷◌, [], IfSome, IsSome, map, not};
 ghost use Rattle.otel_embed.specs.Keys.{span_at};
-ghost use Rattle.opentelemetry.specs.Plain.{PlainStatus, boolean, integer, text};
+ghost use Rattle.opentelemetry.specs.Plain.{PlainStatus, boolean, double, integer, text};
 ghost use Rattle.otel_pipeline.specs.Exceptions.{exception_event};
 ghost use Rattle.otel_pipeline.specs.SpanEdits.{new_event};
 ghost use Rattle.otel_pipeline.specs.SpanHistory.{add_event, set_attribute, set_status, update_name};
@@ -61,6 +61,22 @@ pub extern "C" fn otel_set_integer(
         handle.old.held.pipeline handle.new.held.pipeline }
 {
     set(alloc, handle, span, key, HostValue::Integer(value))
+}
+
+#[unsafe(no_mangle)]
+pub extern "C" fn otel_set_float(
+    alloc: Global,
+    handle: &mut Handle,
+    span: u64,
+    key: &[u8],
+    value: f64,
+) -> u32
+    ensures ok { result ≡ 0 → Turns (SetsOn span key.now (λ made. made ≡ double value))
+        handle.old.held.pipeline handle.new.held.pipeline }
+    ensures stays { result ≢ 0 → TurnsIfOpen (λ p q. Stays p.inside q.inside)
+        handle.old.held.pipeline handle.new.held.pipeline }
+{
+    set(alloc, handle, span, key, HostValue::Float(value))
 }
 
 #[unsafe(no_mangle)]
