@@ -59,7 +59,9 @@ public:
   Span child(std::string_view name, const Start &start = {}) const { return Span(handle_, key_, name, start); }
 
   template <typename Value> void set(std::string_view key, Value &&value) {
-    set(Attributes{Attribute(key, std::forward<Value>(value))});
+    Attributes attributes; /* a list in braces would be copied */
+    attributes.emplace_back(key, std::forward<Value>(value));
+    set(attributes);
   }
   void set(const Attributes &attributes) {
     detail::gather(at(), attributes);

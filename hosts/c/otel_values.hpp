@@ -79,8 +79,9 @@ class Attribute {
 public:
   using Texts = std::vector<std::string_view>;
   using Integers = std::vector<std::int64_t>;
+  using Floats = std::vector<double>;
   using Bools = std::vector<bool>;
-  using Value = std::variant<std::string_view, std::int64_t, bool, Texts, Integers, Bools>;
+  using Value = std::variant<std::string_view, std::int64_t, double, bool, Texts, Integers, Floats, Bools>;
 
   Attribute(std::string_view key, std::string_view value) : key_(key), value_(value) {}
   Attribute(std::string_view key, const char *value) : key_(key), value_(std::string_view(value)) {}
@@ -89,6 +90,7 @@ public:
   Attribute(std::string_view key, const std::vector<std::string> &values)
       : key_(key), value_(Texts(values.begin(), values.end())) {}
   Attribute(std::string_view key, Integers values) : key_(key), value_(std::move(values)) {}
+  Attribute(std::string_view key, Floats values) : key_(key), value_(std::move(values)) {}
   Attribute(std::string_view key, Bools values) : key_(key), value_(std::move(values)) {}
 
   /* A truth value, or an integer of a type whose every value has a place in 64 bits with a sign. */
@@ -96,6 +98,11 @@ public:
             typename = std::enable_if_t<std::is_integral_v<Number> && (std::is_signed_v<Number> || sizeof(Number) < 8)>>
   Attribute(std::string_view key, Number value)
       : key_(key), value_(static_cast<std::conditional_t<std::is_same_v<Number, bool>, bool, std::int64_t>>(value)) {}
+
+  /* A float of a type whose every value is a double. */
+  template <typename Number,
+            std::enable_if_t<std::is_floating_point_v<Number> && sizeof(Number) <= sizeof(double), int> = 0>
+  Attribute(std::string_view key, Number value) : key_(key), value_(static_cast<double>(value)) {}
 
   std::string_view key() const noexcept { return key_; }
   const Value &value() const noexcept { return value_; }
@@ -127,6 +134,12 @@ inline const std::uint8_t *bytes(std::string_view text) noexcept {
   return reinterpret_cast<const std::uint8_t *>(text.data() == nullptr ? "" : text.data());
 }
 
+/* Where the items of a list lie. One without items may have no address, and the library wants one. */
+template <typename Item> const Item *items(const std::vector<Item> &values) noexcept {
+  static const Item none{};
+  return values.empty() ? &none : values.data();
+}
+
 inline void must(const char *call, std::uint32_t status) {
   if (status != OTEL_OK) {
     throw Error(call, status);
@@ -152,6 +165,7 @@ struct Gather {
   std::uint32_t operator()(std::int64_t value) const {
     return otel_with_integer(handle, bytes(key), key.size(), value);
   }
+  std::uint32_t operator()(double value) const { return otel_with_float(handle, bytes(key), key.size(), value); }
   std::uint32_t operator()(bool value) const { return otel_with_bool(handle, bytes(key), key.size(), value); }
   std::uint32_t operator()(const Attribute::Texts &values) const {
     std::string together;
@@ -160,14 +174,14 @@ struct Gather {
       together += value;
       lengths.push_back(value.size());
     }
-    lengths.push_back(0); /* so that the list has an address */
-    return otel_with_texts(handle, bytes(key), key.size(), bytes(together), together.size(), lengths.data(),
-                           values.size());
+    return otel_with_texts(handle, bytes(key), key.size(), bytes(together), together.size(), items(lengths),
+                           lengths.size());
   }
   std::uint32_t operator()(const Attribute::Integers &values) const {
-    static const std::int64_t none = 0;
-    const std::int64_t *at = values.empty() ? &none : values.data();
-    return otel_with_integers(handle, bytes(key), key.size(), at, values.size());
+    return otel_with_integers(handle, bytes(key), key.size(), items(values), values.size());
+  }
+  std::uint32_t operator()(const Attribute::Floats &values) const {
+    return otel_with_floats(handle, bytes(key), key.size(), items(values), values.size());
   }
   std::uint32_t operator()(const Attribute::Bools &values) const {
     std::string numbers(values.begin(), values.end());

@@ -25,6 +25,13 @@ void call_with_integer(driver *driver, pipeline *pipeline) {
   check_status(driver, pipeline, status, &refusals);
 }
 
+void call_with_float(driver *driver, pipeline *pipeline) {
+  refusals refusals = {0};
+  text key = any_attribute_key(driver, &refusals);
+  uint32_t status = otel_with_float(&pipeline->handle, key.bytes, key.length, any_double(driver));
+  check_status(driver, pipeline, status, &refusals);
+}
+
 void call_with_bool(driver *driver, pipeline *pipeline) {
   refusals refusals = {0};
   text key = any_attribute_key(driver, &refusals);
@@ -79,6 +86,15 @@ void call_with_integers(driver *driver, pipeline *pipeline) {
   size_t count = any_below(driver, MOST_VALUES);
   const int64_t *values = (const int64_t *)any_numbers(driver, 1, count);
   uint32_t status = otel_with_integers(&pipeline->handle, key.bytes, key.length, values, count);
+  check_status(driver, pipeline, status, &refusals);
+}
+
+void call_with_floats(driver *driver, pipeline *pipeline) {
+  refusals refusals = {0};
+  text key = any_attribute_key(driver, &refusals);
+  size_t count = any_below(driver, MOST_VALUES);
+  const double *values = any_doubles(driver, 1, count);
+  uint32_t status = otel_with_floats(&pipeline->handle, key.bytes, key.length, values, count);
   check_status(driver, pipeline, status, &refusals);
 }
 

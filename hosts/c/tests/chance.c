@@ -4,6 +4,8 @@
 #define _DEFAULT_SOURCE
 #include "driver.h"
 
+#include <float.h>
+#include <math.h>
 #include <stdio.h>
 #include <string.h>
 #include <sys/mman.h>
@@ -60,6 +62,26 @@ uint64_t *any_numbers(driver *driver, size_t slot, size_t count) {
   uint64_t *numbers = (uint64_t *)(void *)(driver->slots[slot].end - count * sizeof *numbers);
   for (size_t i = 0; i < count; i++) {
     numbers[i] = any_number(driver);
+  }
+  return numbers;
+}
+
+/* A double of any bits, or one that JSON writes in a way of its own. */
+double any_double(driver *driver) {
+  static const double marked[] = {0.0, -0.0, 1.0, 0.1, 1e21, DBL_TRUE_MIN, -DBL_MAX, INFINITY, -INFINITY, NAN};
+  if (is_one_in(driver, 4)) {
+    return marked[any_below(driver, sizeof marked / sizeof *marked)];
+  }
+  uint64_t bits = any_number(driver);
+  double number;
+  memcpy(&number, &bits, sizeof number);
+  return number;
+}
+
+double *any_doubles(driver *driver, size_t slot, size_t count) {
+  double *numbers = (double *)(void *)(driver->slots[slot].end - count * sizeof *numbers);
+  for (size_t i = 0; i < count; i++) {
+    numbers[i] = any_double(driver);
   }
   return numbers;
 }

@@ -79,6 +79,8 @@ text any_text(driver *driver, size_t slot);
 text copied_text(driver *driver, size_t slot, const char *from);
 parent_header any_parent_header(driver *driver, size_t slot);
 uint64_t *any_numbers(driver *driver, size_t slot, size_t count);
+double any_double(driver *driver);
+double *any_doubles(driver *driver, size_t slot, size_t count);
 uint8_t *any_bytes(driver *driver, size_t slot, size_t count);
 bool is_utf8(const uint8_t *bytes, size_t length);
 void make_slots(driver *driver);
@@ -97,9 +99,11 @@ void check_balance(driver *driver, const pipeline *pipeline);
 /* attributes.c: the calls that gather attributes. */
 void call_with_text(driver *driver, pipeline *pipeline);
 void call_with_integer(driver *driver, pipeline *pipeline);
+void call_with_float(driver *driver, pipeline *pipeline);
 void call_with_bool(driver *driver, pipeline *pipeline);
 void call_with_texts(driver *driver, pipeline *pipeline);
 void call_with_integers(driver *driver, pipeline *pipeline);
+void call_with_floats(driver *driver, pipeline *pipeline);
 void call_with_bools(driver *driver, pipeline *pipeline);
 
 /* pipelines.c: the calls that open and close pipelines and spans, and those that export. */
@@ -124,6 +128,7 @@ void call_drain(driver *driver, pipeline *pipeline);
 /* spans.c: the calls that edit a span. */
 void call_set_text(driver *driver, pipeline *pipeline);
 void call_set_integer(driver *driver, pipeline *pipeline);
+void call_set_float(driver *driver, pipeline *pipeline);
 void call_set_bool(driver *driver, pipeline *pipeline);
 void call_set_attributes(driver *driver, pipeline *pipeline);
 void call_add_event(driver *driver, pipeline *pipeline);

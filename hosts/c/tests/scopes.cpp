@@ -5,6 +5,7 @@
 
 #include <cstdlib>
 #include <iostream>
+#include <limits>
 
 namespace {
 
@@ -97,6 +98,35 @@ void attributes_come_as_they_are() {
   }
 }
 
+void floats_come_as_they_are() {
+  constexpr double infinity = std::numeric_limits<double>::infinity();
+  otel::Pipeline pipeline = pipeline_of_a_queue();
+  otel::Span span = pipeline.start("floats", {otel::Kind::client, {{"tenth", 0.1}, {"single", 0.5f}}});
+  span.set("whole", 1.0);
+  span.set("zero", -0.0);
+  span.set("least", std::numeric_limits<double>::denorm_min());
+  span.set("nan", std::numeric_limits<double>::quiet_NaN());
+  span.set({{"infinite", infinity}, {"floats", otel::Attribute::Floats{2.5, 1e300, -infinity}}});
+  span.set("no floats", otel::Attribute::Floats{});
+  span.end();
+  pipeline.flush();
+  std::string lines = pipeline.drain();
+  for (const char *wanted :
+       {R"({"key":"tenth","value":{"doubleValue":0.1}})", R"({"key":"single","value":{"doubleValue":0.5}})",
+        R"({"key":"whole","value":{"doubleValue":1.0}})", R"({"key":"zero","value":{"doubleValue":-0.0}})",
+        R"({"key":"least","value":{"doubleValue":5e-324}})", R"({"key":"nan","value":{"doubleValue":"NaN"}})",
+        R"({"key":"infinite","value":{"doubleValue":"Infinity"}})",
+        R"([{"doubleValue":2.5},{"doubleValue":1e300},{"doubleValue":"-Infinity"}])",
+        R"({"key":"no floats","value":{"arrayValue":{"values":[]}}})"}) {
+    hold(has(lines, wanted), wanted);
+  }
+}
+
+/* What has no place in 64 bits is no value. */
+static_assert(std::is_constructible_v<otel::Attribute, const char *, float>);
+static_assert(!std::is_constructible_v<otel::Attribute, const char *, long double>);
+static_assert(!std::is_constructible_v<otel::Attribute, const char *, std::uint64_t>);
+
 void refusals_leave_nothing() {
   otel::Pipeline pipeline = pipeline_of_a_queue();
   hold(throws(OTEL_NOT_UTF8,
@@ -154,6 +184,7 @@ int main() {
   spans_move();
   spans_may_outlive_the_pipeline();
   attributes_come_as_they_are();
+  floats_come_as_they_are();
   refusals_leave_nothing();
   headers_carry_a_trace();
   pipelines_close();

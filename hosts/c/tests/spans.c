@@ -44,6 +44,13 @@ void call_set_integer(driver *driver, pipeline *pipeline) {
   check_status(driver, pipeline, status, &edit.refusals);
 }
 
+void call_set_float(driver *driver, pipeline *pipeline) {
+  edit edit = any_edit(driver, pipeline);
+  text key = edit_text(driver, &edit, 0);
+  uint32_t status = otel_set_float(&pipeline->handle, edit.key, key.bytes, key.length, any_double(driver));
+  check_status(driver, pipeline, status, &edit.refusals);
+}
+
 void call_set_bool(driver *driver, pipeline *pipeline) {
   edit edit = any_edit(driver, pipeline);
   text key = edit_text(driver, &edit, 0);
