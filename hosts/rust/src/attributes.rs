@@ -4,13 +4,15 @@
 use std::borrow::Cow;
 
 /// The value of an attribute. Texts and lists may be borrowed: a call copies what it is given.
-#[derive(Clone, Debug, PartialEq, Eq)]
+#[derive(Clone, Debug, PartialEq)]
 pub enum Value<'a> {
     Text(Cow<'a, str>),
     Integer(i64),
+    Float(f64),
     Bool(bool),
     Texts(Vec<Cow<'a, str>>),
     Integers(Cow<'a, [i64]>),
+    Floats(Cow<'a, [f64]>),
     Bools(Cow<'a, [bool]>),
 }
 
@@ -21,7 +23,7 @@ pub enum Value<'a> {
 /// let pair = Attribute::new("http.request.method", "GET");
 /// assert_eq!(pair, ("http.request.method", "GET").into());
 /// ```
-#[derive(Clone, Debug, PartialEq, Eq)]
+#[derive(Clone, Debug, PartialEq)]
 pub struct Attribute<'a> {
     pub key: Cow<'a, str>,
     pub value: Value<'a>,
@@ -62,12 +64,16 @@ value_from! {
     u32, it => Value::Integer(it.into());
     u16, it => Value::Integer(it.into());
     u8, it => Value::Integer(it.into());
+    f64, it => Value::Float(it);
+    f32, it => Value::Float(it.into());
     Vec<String>, it => Value::Texts(it.into_iter().map(Cow::from).collect());
     Vec<&'a str>, it => Value::Texts(it.into_iter().map(Cow::from).collect());
     &'a [String], it => Value::Texts(it.iter().map(Cow::from).collect());
     &'a [&'a str], it => Value::Texts(it.iter().map(|text| Cow::from(*text)).collect());
     Vec<i64>, it => Value::Integers(it.into());
     &'a [i64], it => Value::Integers(it.into());
+    Vec<f64>, it => Value::Floats(it.into());
+    &'a [f64], it => Value::Floats(it.into());
     Vec<bool>, it => Value::Bools(it.into());
     &'a [bool], it => Value::Bools(it.into());
 }
@@ -82,4 +88,4 @@ macro_rules! value_from_array {
     };
 }
 
-value_from_array!(&'a str, String, i64, bool);
+value_from_array!(&'a str, String, i64, f64, bool);

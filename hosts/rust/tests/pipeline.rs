@@ -80,6 +80,28 @@ fn lists_are_values_too() {
 }
 
 #[test]
+fn floats_are_values_too() {
+    let pipeline = batch();
+    let tracer = pipeline.tracer("shop");
+    let span = tracer.span("floats").attribute("tenth", 0.1).attribute("at start", [2.5, -f64::INFINITY]).start();
+    span.set_attribute("whole", 1.0).set_attribute("single", 0.5_f32).set_attribute("zero", -0.0);
+    span.set_attribute("nan", f64::NAN).set_attribute("infinite", f64::INFINITY).set_attribute("least", 5e-324);
+    span.set_attribute("set", vec![1e300]).set_attribute("none", Vec::<f64>::new());
+    span.add_event("measured", [Attribute::new("seconds", 0.25)]);
+    span.end();
+    let lines = lines_of(pipeline);
+    let single = [("tenth", "0.1"), ("whole", "1.0"), ("single", "0.5"), ("zero", "-0.0"), ("least", "5e-324")];
+    let marked = [("nan", r#""NaN""#), ("infinite", r#""Infinity""#), ("seconds", "0.25")];
+    for (key, number) in single.into_iter().chain(marked) {
+        has(&lines, &format!(r#"{{"key":"{key}","value":{{"doubleValue":{number}}}}}"#));
+    }
+    let list = |key: &str, items: &str| format!(r#"{{"key":"{key}","value":{{"arrayValue":{{"values":[{items}]}}}}}}"#);
+    has(&lines, &list("at start", r#"{"doubleValue":2.5},{"doubleValue":"-Infinity"}"#));
+    has(&lines, &list("set", r#"{"doubleValue":1e300}"#));
+    has(&lines, &list("none", ""));
+}
+
+#[test]
 fn events_and_links_are_written() {
     let pipeline = batch();
     let tracer = pipeline.tracer("shop");

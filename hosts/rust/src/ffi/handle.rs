@@ -7,8 +7,8 @@
 
 use super::{
     check, otel_close, otel_count, otel_drain, otel_flush, otel_ignored_settings, otel_open, otel_run, otel_shutdown,
-    otel_tracer, otel_with_bool, otel_with_bools, otel_with_integer, otel_with_integers, otel_with_text,
-    otel_with_texts, Counts, Held, RawHandle, TracerKey,
+    otel_tracer, otel_with_bool, otel_with_bools, otel_with_float, otel_with_floats, otel_with_integer,
+    otel_with_integers, otel_with_text, otel_with_texts, Counts, Held, RawHandle, TracerKey,
 };
 use crate::attributes::{Attribute, Value};
 use crate::moment::Moment;
@@ -79,8 +79,10 @@ impl Handle {
         let status = match &attribute.value {
             Value::Text(it) => unsafe { otel_with_text(raw, key, length, it.as_ptr(), it.len()) },
             Value::Integer(it) => unsafe { otel_with_integer(raw, key, length, *it) },
+            Value::Float(it) => unsafe { otel_with_float(raw, key, length, *it) },
             Value::Bool(it) => unsafe { otel_with_bool(raw, key, length, u32::from(*it)) },
             Value::Integers(it) => unsafe { otel_with_integers(raw, key, length, it.as_ptr(), it.len()) },
+            Value::Floats(it) => unsafe { otel_with_floats(raw, key, length, it.as_ptr(), it.len()) },
             Value::Bools(it) => unsafe { otel_with_bools(raw, key, length, it.as_ptr().cast(), it.len()) },
             Value::Texts(it) => return self.gather_texts(&attribute.key, it),
         };

@@ -83,6 +83,7 @@ extern "C" {
         handle: *mut RawHandle, key: *const u8, key_length: usize, value: *const u8, value_length: usize,
     ) -> u32;
     fn otel_with_integer(handle: *mut RawHandle, key: *const u8, key_length: usize, value: i64) -> u32;
+    fn otel_with_float(handle: *mut RawHandle, key: *const u8, key_length: usize, value: f64) -> u32;
     fn otel_with_bool(handle: *mut RawHandle, key: *const u8, key_length: usize, value: u32) -> u32;
     fn otel_with_texts(
         handle: *mut RawHandle, key: *const u8, key_length: usize, values: *const u8, values_length: usize,
@@ -90,6 +91,9 @@ extern "C" {
     ) -> u32;
     fn otel_with_integers(
         handle: *mut RawHandle, key: *const u8, key_length: usize, values: *const i64, count: usize,
+    ) -> u32;
+    fn otel_with_floats(
+        handle: *mut RawHandle, key: *const u8, key_length: usize, values: *const f64, count: usize,
     ) -> u32;
     fn otel_with_bools(
         handle: *mut RawHandle, key: *const u8, key_length: usize, values: *const u8, count: usize,
@@ -110,6 +114,9 @@ extern "C" {
     ) -> u32;
     fn otel_set_integer(
         handle: *mut RawHandle, span: SpanKey, key: *const u8, key_length: usize, value: i64,
+    ) -> u32;
+    fn otel_set_float(
+        handle: *mut RawHandle, span: SpanKey, key: *const u8, key_length: usize, value: f64,
     ) -> u32;
     fn otel_set_bool(
         handle: *mut RawHandle, span: SpanKey, key: *const u8, key_length: usize, value: u32,

@@ -4,8 +4,8 @@
 use super::handle::{filled, Handle};
 use super::{
     check, otel_abandon, otel_add_event, otel_add_link, otel_add_remote_link, otel_end, otel_identity, otel_inject,
-    otel_record_exception, otel_set_attributes, otel_set_bool, otel_set_integer, otel_set_status, otel_set_text,
-    otel_start, otel_start_remote, otel_update_name, SpanIdentity, SpanKey, TracerKey,
+    otel_record_exception, otel_set_attributes, otel_set_bool, otel_set_float, otel_set_integer, otel_set_status,
+    otel_set_text, otel_start, otel_start_remote, otel_update_name, SpanIdentity, SpanKey, TracerKey,
 };
 use crate::attributes::{Attribute, Value};
 use crate::headers::Extracted;
@@ -98,8 +98,9 @@ impl Handle {
         let status = match &attribute.value {
             Value::Text(it) => unsafe { otel_set_text(raw, span, key, length, it.as_ptr(), it.len()) },
             Value::Integer(it) => unsafe { otel_set_integer(raw, span, key, length, *it) },
+            Value::Float(it) => unsafe { otel_set_float(raw, span, key, length, *it) },
             Value::Bool(it) => unsafe { otel_set_bool(raw, span, key, length, u32::from(*it)) },
-            Value::Texts(_) | Value::Integers(_) | Value::Bools(_) => {
+            Value::Texts(_) | Value::Integers(_) | Value::Floats(_) | Value::Bools(_) => {
                 self.gather(slice::from_ref(attribute))?;
                 return self.set_attributes(Some(span));
             }

@@ -6,7 +6,7 @@ const HEADER: &str = include_str!("../../../c/otel.h");
 const HERE: &str = include_str!("mod.rs");
 
 /// Types of C and of Rust that are the same for a call.
-const TYPES: [(&str, &str); 11] = [
+const TYPES: [(&str, &str); 12] = [
     ("bool", "bool"),
     ("uint8_t", "u8"),
     ("uint32_t", "u32"),
@@ -15,6 +15,7 @@ const TYPES: [(&str, &str); 11] = [
     ("uint64_t", "Option<SpanKey>"),
     ("uint64_t", "TracerKey"),
     ("int64_t", "i64"),
+    ("double", "f64"),
     ("size_t", "usize"),
     ("otel_span_identity", "SpanIdentity"),
     ("otel_numbers", "Counts"),
