@@ -6,7 +6,7 @@ from __future__ import annotations
 import ctypes
 import functools
 import os
-from ctypes import POINTER, c_bool, c_char_p, c_int64, c_size_t, c_uint32, c_uint64, c_void_p
+from ctypes import POINTER, c_bool, c_char_p, c_double, c_int64, c_size_t, c_uint32, c_uint64, c_void_p
 from typing import Any, Callable, Dict, List, NamedTuple, Tuple, Type
 
 from . import errors
@@ -72,15 +72,18 @@ FUNCTIONS: Dict[str, Tuple[Any, ...]] = {
     "otel_tracer": (*_TEXT, *_TEXT, *_TEXT, POINTER(_TRACER)),
     "otel_with_text": (*_TEXT, *_TEXT),
     "otel_with_integer": (*_TEXT, c_int64),
+    "otel_with_float": (*_TEXT, c_double),
     "otel_with_bool": (*_TEXT, c_uint32),
     "otel_with_texts": (*_TEXT, *_TEXT, POINTER(c_uint64), c_size_t),
     "otel_with_integers": (*_TEXT, POINTER(c_int64), c_size_t),
+    "otel_with_floats": (*_TEXT, POINTER(c_double), c_size_t),
     "otel_with_bools": (*_TEXT, c_char_p, c_size_t),
     "otel_start": (_TRACER, _SPAN, c_uint32, *_TEXT, _MOMENT, _NEW_KEY),
     "otel_start_remote": (_TRACER, *_TEXT, *_TEXT, *_TEXT, c_uint32, *_TEXT, _MOMENT, _NEW_KEY),
     "otel_identity": (_SPAN, POINTER(Identity)),
     "otel_set_text": (_SPAN, *_TEXT, *_TEXT),
     "otel_set_integer": (_SPAN, *_TEXT, c_int64),
+    "otel_set_float": (_SPAN, *_TEXT, c_double),
     "otel_set_bool": (_SPAN, *_TEXT, c_uint32),
     "otel_set_attributes": (_SPAN,),
     "otel_add_event": (_SPAN, *_TEXT, _MOMENT),

@@ -4,12 +4,12 @@
 from __future__ import annotations
 
 import time
-from ctypes import c_int64, c_uint64
+from ctypes import c_double, c_int64, c_uint64
 from typing import Any, List, Mapping, NamedTuple, Optional, Sequence, Tuple, Union
 
 from .errors import NotUtf8
 
-Value = Union[str, int, bool, Sequence[str], Sequence[int], Sequence[bool]]
+Value = Union[str, int, float, bool, Sequence[str], Sequence[int], Sequence[float], Sequence[bool]]
 Attributes = Mapping[str, Value]
 
 SMALLEST, GREATEST = -(2**63), 2**63 - 1
@@ -73,10 +73,12 @@ def encode(key: str, value: Value) -> Encoded:
         raise TypeError(f"the attribute {key!a} is {_named(value)}, not {_TYPES} or a list of one of these")
     if isinstance(value, str):
         return Encoded(form, (*name, *text(utf8(value, f"the attribute {key!a}"))))
+    if isinstance(value, float):
+        return Encoded(form, (*name, value))
     return Encoded(form, (*name, int(value)))  # type: ignore[arg-type]
 
 
-_TYPES = "a str, a bool, an int of 64 bits"
+_TYPES = "a str, a bool, an int of 64 bits, a float"
 
 
 def _form_of(value: object) -> Optional[str]:
@@ -86,6 +88,8 @@ def _form_of(value: object) -> Optional[str]:
         return "bool"
     if isinstance(value, int) and SMALLEST <= value <= GREATEST:
         return "integer"
+    if isinstance(value, float):
+        return "float"
     return None
 
 
@@ -104,6 +108,8 @@ def _encode_list(name: Tuple[bytes, int], key: str, values: Sequence[Any]) -> En
     count = len(values)
     if forms == {"bool"}:
         return Encoded("bools", (*name, bytes(values), count))
+    if forms == {"float"}:
+        return Encoded("floats", (*name, (c_double * count)(*values), count))
     return Encoded("integers", (*name, (c_int64 * count)(*values), count))
 
 

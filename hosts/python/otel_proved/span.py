@@ -118,7 +118,7 @@ class Span:
             self._failures.note(error)
 
     def set_attribute(self, key: str, value: Value) -> None:
-        """Sets an attribute: a str, a bool, an int of 64 bits, or a list of one of these."""
+        """Sets an attribute: a str, a bool, an int of 64 bits, a float, or a list of one of these."""
         encoded = encode(key, value)
         if encoded.is_list:
             self._edit_with([encoded], "otel_set_attributes")

@@ -34,6 +34,8 @@ def value_of(value):
     (kind, inner), = value.items()
     if kind == "intValue":
         return int(inner)
+    if kind == "doubleValue":
+        return float(inner)
     return [value_of(it) for it in inner["values"]] if kind == "arrayValue" else inner
 
 

@@ -4,8 +4,10 @@
 import asyncio
 import contextvars
 import gc
+import math
 import threading
 import unittest
+from decimal import Decimal
 
 from otel_proved import ROOT, Busy, Kind, NoSuchSpan, NotUtf8, OutOfMemory, Remote, StatusCode, current_span, use_span
 
@@ -16,10 +18,18 @@ ALL_KINDS_OF_VALUES = {
     "empty": "",
     "low": -(2**63),
     "high": 2**63 - 1,
+    "tenth": 0.1,
+    "whole": 1.0,
+    "zero": -0.0,
+    "huge": 1e300,
+    "least": 5e-324,
+    "nan": math.nan,
+    "infinite": math.inf,
     "yes": True,
     "no": False,
     "texts": ["a", "", "ü"],
     "integers": (1, -2),
+    "floats": [0.5, -2.0, math.nan, -math.inf],
     "truths": [True, False],
     "nothing": [],
 }
@@ -46,7 +56,8 @@ class Keeps(PipelineTest):
         found = self.exported()
         event, link = found["at start"]["events"][0], found["set"]["links"][0]
         for thing in (*found.values(), event, link):
-            self.assertEqual(attributes_of(thing), wanted)
+            # As texts, in which 1 is not True or 1.0, and NaN is like itself.
+            self.assertEqual(repr(attributes_of(thing)), repr(wanted))
         self.assertEqual((event["name"], event["timeUnixNano"]), ("row", "5"))
         self.assertEqual(link["spanId"], first.context.span_id)
 
@@ -74,7 +85,8 @@ class Keeps(PipelineTest):
 class Refuses(PipelineTest):
     def test_values_of_other_types_change_nothing(self):
         with self.pipeline.span("whole", attributes={"a": 1}) as span:
-            for value in (1.5, None, 2**63, -(2**63) - 1, b"x", {}, [1, "a"], [True, 1], [1.5], [2**63], [[1]]):
+            mixed = [1, "a"], [True, 1], [1, 1.5], [1.5, 1], [True, 1.5]
+            for value in (None, 1j, Decimal(1), 2**63, -(2**63) - 1, b"x", {}, [2**63], [[1]], *mixed):
                 for call in (span.set_attribute, lambda key, it: span.set_attributes({"good": 1, key: it})):
                     self.assertRaises(TypeError, call, "key", value)
                 self.assertRaises(TypeError, span.add_event, "row", {"good": 1, "key": value})
@@ -231,7 +243,7 @@ class Ends(PipelineTest):
         self.setUp()
         with self.pipeline.span("dropped") as span:
             span.set_attribute("key", 1)
-            self.assertRaises(TypeError, span.set_attribute, "key", 1.5)
+            self.assertRaises(TypeError, span.set_attribute, "key", [1, 1.5])
             self.assertFalse(span.is_recording or span.context.is_sampled)
         self.assertEqual((self.exported(), self.pipeline.failed_calls), ({}, 0))
 
@@ -262,10 +274,11 @@ class WithoutMemory(PipelineTest):
         self.assertEqual(self.exported()["inner"]["parentSpanId"], outer.context.span_id)
 
     def test_an_edit_is_counted(self):
-        with self.pipeline.span("edited") as span, self.no_memory("otel_set_text", "otel_with_integers"):
+        with self.pipeline.span("edited") as span, self.no_memory("otel_set_text", "otel_set_float", "otel_with_floats"):
             span.set_attribute("key", "value")
-            span.set_attributes({"key": "value", "list": [1]})
-        self.assertEqual((self.exported()["edited"]["attributes"], self.pipeline.failed_calls), ([], 2))
+            span.set_attribute("key", 0.5)
+            span.set_attributes({"key": "value", "list": [0.5]})
+        self.assertEqual((self.exported()["edited"]["attributes"], self.pipeline.failed_calls), ([], 3))
 
     def test_an_end_is_counted_as_lost(self):
         with self.no_memory("otel_end"):
