@@ -1,7 +1,7 @@
 -- What a handle holds, and what a call does to that.
 use base.Stored.{Coded}
 use Rattle.std.specs.Coded.{coded_option}
-use Rattle.std.specs.Prelude.{◌≡◌, ◌++◌, ◌∷◌, ◌+◌, ◌*◌, ◌^◌, ◌<◌, ◌≤◌, [], ℕ, List, Option, Some, None, Result, Ok, Err}
+use Rattle.std.specs.Prelude.{◌≡◌, ◌≢◌, ◌⊎◌, IfSome, ◌++◌, ◌∷◌, ◌+◌, ◌*◌, ◌^◌, ◌<◌, ◌≤◌, [], ℕ, List, Option, Some, None, Result, Ok, Err}
 use Rattle.std.specs.Prelude.{drop, length}
 use Rattle.std.specs.Prelude.{if◌then◌else◌}
 use Rattle.otel_c.specs.declared.flow.Counts.{Counts}
@@ -32,6 +32,19 @@ TurnsIfOpen Does None None = Unit {0}
 TurnsIfOpen Does None (Some now) = ⊥
 TurnsIfOpen Does (Some was) None = ⊥
 TurnsIfOpen Does (Some was) (Some now) = Does was now
+
+-- a call's status is 0 after this was done to the pipeline that the handle holds; after any other status that was done,
+-- if there is a pipeline
+pub record Answers (status : ℕ) (Does Fails : Pipeline → Pipeline → Type 0) (was now : Option Pipeline) : Type 0 where
+  pub ok : status ≡ 0 → Turns Does was now
+  pub failed : status ≢ 0 → TurnsIfOpen Fails was now
+
+-- a call to the pipeline's processors, which may fail, was carried out if there is a pipeline: 0 where it did not fail,
+-- 9 where it did, and 1 where there is none
+pub record Calls (status : ℕ) (Does : Type 0 → Pipeline → Pipeline → Type 0) (was now : Option Pipeline) : Type 0 where
+  pub does : TurnsIfOpen (Does (status ≡ 0)) was now
+  pub closed : was ≡ None → status ≡ 1
+  pub failed : IfSome was (λ _. (status ≡ 0) ⊎ (status ≡ 9))
 
 -- a handle holds a pipeline of which this is so
 abbrev pub Holds : (Pipeline → Type 0) → Option Pipeline → Type 0

@@ -1,7 +1,7 @@
 //! What becomes of ended spans, and how many are where.
 
 ghost use Rattle.std.specs.Prelude.{◌≡◌, ◌≢◌, ◌≤◌, ◌<◌, ◌⊎◌, IfSome, None, length};
-ghost use Rattle.otel_c.specs.Handles.{Holds, ShowsNumbers, Turns, TurnsIfOpen};
+ghost use Rattle.otel_c.specs.Handles.{Calls, Holds, ShowsNumbers, Turns, TurnsIfOpen};
 ghost use Rattle.otel_embed.specs.Flows.{flushed, ran, shut};
 ghost use Rattle.otel_embed.specs.Pipelines.{CountsIn, DrainsInto, FlowsBy};
 ghost use Rattle.otel_embed.specs.declared.numbers.Numbers.{Numbers as TheNumbers};
@@ -37,13 +37,11 @@ fn counts_of(numbers: Numbers) -> Counts
     }
 }
 
+/// Exports what waits in the queue, into the lines that `otel_drain` hands out.
 #[unsafe(no_mangle)]
 pub extern "C" fn otel_flush(alloc: Global, handle: &mut Handle) -> u32
-    ensures flows { TurnsIfOpen (λ p q.
-        FlowsBy ⟦<HostInside as HostPipeline>⟧.calls flushed (result ≡ 0) p.inside q.inside)
+    ensures { Calls result (λ done p q. FlowsBy ⟦<HostInside as HostPipeline>⟧.calls flushed done p.inside q.inside)
         handle.old.held.pipeline handle.new.held.pipeline }
-    ensures closed { handle.old.held.pipeline ≡ None → result ≡ 1 }
-    ensures failed { IfSome handle.old.held.pipeline (λ _. (result ≡ 0) ⊎ (result ≡ 9)) }
 {
     let Some(mut pipeline) = handle.take(alloc) else {
         return OTEL_CLOSED;
@@ -53,13 +51,12 @@ pub extern "C" fn otel_flush(alloc: Global, handle: &mut Handle) -> u32
     status_of_result(flushed)
 }
 
+/// Exports what is due at this moment, which is not before that of an earlier call.
 #[unsafe(no_mangle)]
 pub extern "C" fn otel_run(alloc: Global, handle: &mut Handle, moment: u64) -> u32
-    ensures flows { TurnsIfOpen (λ p q.
-        FlowsBy ⟦<HostInside as HostPipeline>⟧.calls (ran moment) (result ≡ 0) p.inside q.inside)
+    ensures { Calls result (λ done p q.
+        FlowsBy ⟦<HostInside as HostPipeline>⟧.calls (ran moment) done p.inside q.inside)
         handle.old.held.pipeline handle.new.held.pipeline }
-    ensures closed { handle.old.held.pipeline ≡ None → result ≡ 1 }
-    ensures failed { IfSome handle.old.held.pipeline (λ _. (result ≡ 0) ⊎ (result ≡ 9)) }
 {
     let Some(mut pipeline) = handle.take(alloc) else {
         return OTEL_CLOSED;
@@ -69,6 +66,8 @@ pub extern "C" fn otel_run(alloc: Global, handle: &mut Handle, moment: u64) -> u
     status_of_result(ran)
 }
 
+/// Hands out what was exported, whole lines of OTLP JSON, and forgets it. `OTEL_BUFFER_TOO_SMALL` where the buffer has
+/// no room for all: then nothing is forgotten, and the length is what they take.
 #[unsafe(no_mangle)]
 pub extern "C" fn otel_drain(
     alloc: Global,
@@ -103,6 +102,7 @@ pub extern "C" fn otel_drain(
     }
 }
 
+/// Says how many spans are where, from the opening on.
 #[unsafe(no_mangle)]
 pub extern "C" fn otel_count(alloc: Global, handle: &mut Handle, numbers: &mut Counts) -> u32
     ensures ok { result ≡ 0 → Holds (λ p. (counted : TheNumbers)
@@ -118,13 +118,11 @@ pub extern "C" fn otel_count(alloc: Global, handle: &mut Handle, numbers: &mut C
     OTEL_OK
 }
 
+/// Exports what waits, and nothing afterwards. Lines can still be drained.
 #[unsafe(no_mangle)]
 pub extern "C" fn otel_shutdown(alloc: Global, handle: &mut Handle) -> u32
-    ensures flows { TurnsIfOpen (λ p q.
-        FlowsBy ⟦<HostInside as HostPipeline>⟧.calls shut (result ≡ 0) p.inside q.inside)
+    ensures { Calls result (λ done p q. FlowsBy ⟦<HostInside as HostPipeline>⟧.calls shut done p.inside q.inside)
         handle.old.held.pipeline handle.new.held.pipeline }
-    ensures closed { handle.old.held.pipeline ≡ None → result ≡ 1 }
-    ensures failed { IfSome handle.old.held.pipeline (λ _. (result ≡ 0) ⊎ (result ≡ 9)) }
 {
     let Some(mut pipeline) = handle.take(alloc) else {
         return OTEL_CLOSED;

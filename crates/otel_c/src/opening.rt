@@ -16,6 +16,8 @@ use otel_embed::pipeline::HostProcessor;
 use otel_pipeline::trace::SpanProcessor;
 use std::alloc::Global;
 
+/// Opens a pipeline by settings, which are lines NAME=VALUE. The seed decides all ids. `OTEL_ALREADY_OPEN` where the
+/// handle is open, `OTEL_NOT_UTF8` where the settings are not UTF-8.
 #[unsafe(no_mangle)]
 pub extern "C" fn otel_open(alloc: Global, handle: &mut Handle, settings: &[u8], seed: u64) -> u32
     ensures ok { result ≡ 0 → (handle.old.held.pipeline ≡ None) × Holds (λ p. OpensBy
@@ -39,6 +41,7 @@ pub extern "C" fn otel_open(alloc: Global, handle: &mut Handle, settings: &[u8],
     }
 }
 
+/// Writes the names of the settings that were ignored, each with a line feed after it.
 #[unsafe(no_mangle)]
 pub extern "C" fn otel_ignored_settings(
     alloc: Global,
@@ -59,6 +62,7 @@ pub extern "C" fn otel_ignored_settings(
     status
 }
 
+/// Makes a tracer for a library. An empty version or schema URL is none.
 #[unsafe(no_mangle)]
 pub extern "C" fn otel_tracer(
     alloc: Global,

@@ -2,7 +2,7 @@
 
 ghost use Rattle.std.specs.Prelude.{◌≡◌, ◌≢◌, ◌⊎◌, [], List, ℕ};
 ghost use Rattle.opentelemetry.specs.declared.trace.span_kind.SpanKind.{SpanKind as TheKinds};
-ghost use Rattle.otel_c.specs.Handles.{CopiesText, Holds, Turns, TurnsIfOpen};
+ghost use Rattle.otel_c.specs.Handles.{Answers, CopiesText, Holds};
 ghost use Rattle.otel_embed.specs.Headers.{IsContextOf};
 ghost use Rattle.otel_embed.specs.HostValues.{IsKind};
 ghost use Rattle.otel_embed.specs.Pipelines.{LinksToRemote, RefusesIn, SaysHeaders, StartsIn, Stays, taken};
@@ -15,6 +15,7 @@ use otel_embed::pipeline::HostInside;
 use otel_embed::pipeline_of::HostPipeline;
 use std::alloc::Global;
 
+/// Starts a span as a child of the one that these headers name, or a root where they name none.
 #[unsafe(no_mangle)]
 pub extern "C" fn otel_start_remote(
     alloc: Global,
@@ -28,15 +29,13 @@ pub extern "C" fn otel_start_remote(
     moment: u64,
     key: &mut u64,
 ) -> u32
-    ensures ok { result ≡ 0 → Turns (λ p q. (asked : TheKinds) × IsKind kind asked × StartsIn
+    ensures { Answers result (λ p q. (asked : TheKinds) × IsKind kind asked × StartsIn
         ⟦<HostInside as HostPipeline>⟧.calls (IsContextOf (record {
           traceparent = traceparent.now;
           tracestate = tracestate.now;
           baggage = baggage.now;
         })) p.inside tracer asked moment name.now key.new q.inside)
-        handle.old.held.pipeline handle.new.held.pipeline }
-    ensures stays { result ≢ 0 → TurnsIfOpen (λ p q.
-        RefusesIn ⟦<HostInside as HostPipeline>⟧.calls p.inside q.inside)
+        (λ p q. RefusesIn ⟦<HostInside as HostPipeline>⟧.calls p.inside q.inside)
         handle.old.held.pipeline handle.new.held.pipeline }
     ensures refused { result ≢ 0 → key.new ≡ key.old }
 {
@@ -55,6 +54,7 @@ pub extern "C" fn otel_start_remote(
     write_number(started, key)
 }
 
+/// Adds a link to the span that these headers name; `OTEL_BAD_ARGUMENT` where they name none.
 #[unsafe(no_mangle)]
 pub extern "C" fn otel_add_remote_link(
     alloc: Global,
@@ -63,13 +63,11 @@ pub extern "C" fn otel_add_remote_link(
     traceparent: &[u8],
     tracestate: &[u8],
 ) -> u32
-    ensures ok { result ≡ 0 → Turns (λ p q. LinksToRemote p.inside span (record {
+    ensures { Answers result (λ p q. LinksToRemote p.inside span (record {
       traceparent = traceparent.now;
       tracestate = tracestate.now;
       baggage = [];
-    }) q.inside) handle.old.held.pipeline handle.new.held.pipeline }
-    ensures stays { result ≢ 0 → TurnsIfOpen (λ p q. Stays (taken p.inside) q.inside)
-        handle.old.held.pipeline handle.new.held.pipeline }
+    }) q.inside) (λ p q. Stays (taken p.inside) q.inside) handle.old.held.pipeline handle.new.held.pipeline }
 {
     let Some(mut pipeline) = handle.take(alloc) else {
         return OTEL_CLOSED;
@@ -84,6 +82,7 @@ pub extern "C" fn otel_add_remote_link(
     status_of_result(added)
 }
 
+/// Writes the headers that hand a span on to another process, each `name: value` with a line end after it.
 #[unsafe(no_mangle)]
 pub extern "C" fn otel_inject(
     alloc: Global,

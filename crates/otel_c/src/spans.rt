@@ -1,7 +1,7 @@
 //! The life of a span: its start, who it is, its end.
 
 ghost use Rattle.std.specs.Prelude.{◌≡◌, ◌≢◌, IfSome, IsSome};
-ghost use Rattle.otel_c.specs.Handles.{Holds, ShowsIdentity, Turns, TurnsIfOpen};
+ghost use Rattle.otel_c.specs.Handles.{Answers, Holds, ShowsIdentity};
 ghost use Rattle.otel_embed.specs.Keys.{span_at};
 ghost use Rattle.opentelemetry.specs.declared.trace.span_kind.SpanKind.{SpanKind as TheKinds};
 ghost use Rattle.otel_embed.specs.HostValues.{IsKind};
@@ -40,6 +40,8 @@ fn identity_of(identity: SpanIdentity) -> Identity
     }
 }
 
+/// Starts a span of a kind, a child of the span of the key `parent`, or a root where that is 0, with the attributes
+/// that were gathered.
 #[unsafe(no_mangle)]
 pub extern "C" fn otel_start(
     alloc: Global,
@@ -51,12 +53,10 @@ pub extern "C" fn otel_start(
     moment: u64,
     key: &mut u64,
 ) -> u32
-    ensures ok { result ≡ 0 → Turns (λ p q. (asked : TheKinds) × IsKind kind asked × StartsIn
+    ensures { Answers result (λ p q. (asked : TheKinds) × IsKind kind asked × StartsIn
         ⟦<HostInside as HostPipeline>⟧.calls (IsContextUnder p.inside.spans parent) p.inside tracer asked moment
         name.now key.new q.inside)
-        handle.old.held.pipeline handle.new.held.pipeline }
-    ensures stays { result ≢ 0 → TurnsIfOpen (λ p q.
-        RefusesIn ⟦<HostInside as HostPipeline>⟧.calls p.inside q.inside)
+        (λ p q. RefusesIn ⟦<HostInside as HostPipeline>⟧.calls p.inside q.inside)
         handle.old.held.pipeline handle.new.held.pipeline }
     ensures refused { result ≢ 0 → key.new ≡ key.old }
 {
@@ -70,6 +70,7 @@ pub extern "C" fn otel_start(
     write_number(started, key)
 }
 
+/// Says who a span is, and whether it records what it is told.
 #[unsafe(no_mangle)]
 pub extern "C" fn otel_identity(
     alloc: Global,
@@ -96,13 +97,11 @@ pub extern "C" fn otel_identity(
     }
 }
 
+/// Ends a span, which is handed on for export where it is sampled. Its key names nothing from then on.
 #[unsafe(no_mangle)]
 pub extern "C" fn otel_end(alloc: Global, handle: &mut Handle, span: u64, moment: u64) -> u32
-    ensures ok { result ≡ 0 → Turns
-        (λ p q. EndsSpan ⟦<HostInside as HostPipeline>⟧.calls.processor p.inside span moment q.inside)
-        handle.old.held.pipeline handle.new.held.pipeline }
-    ensures stays { result ≢ 0 → TurnsIfOpen (λ p q. Stays p.inside q.inside)
-        handle.old.held.pipeline handle.new.held.pipeline }
+    ensures { Answers result (λ p q. EndsSpan ⟦<HostInside as HostPipeline>⟧.calls.processor p.inside span moment
+        q.inside) (λ p q. Stays p.inside q.inside) handle.old.held.pipeline handle.new.held.pipeline }
     ensures free { IfSome handle.old.held.pipeline (λ p. EndNeedsNone p.inside span → result ≡ 0) }
 {
     let Some(mut pipeline) = handle.take(alloc) else {
@@ -113,11 +112,10 @@ pub extern "C" fn otel_end(alloc: Global, handle: &mut Handle, span: u64, moment
     status_of_result(ended)
 }
 
+/// Ends a span without handing it on.
 #[unsafe(no_mangle)]
 pub extern "C" fn otel_abandon(alloc: Global, handle: &mut Handle, span: u64) -> u32
-    ensures ok { result ≡ 0 → Turns (λ p q. Abandons p.inside span q.inside)
-        handle.old.held.pipeline handle.new.held.pipeline }
-    ensures stays { result ≢ 0 → TurnsIfOpen (λ p q. Stays p.inside q.inside)
+    ensures { Answers result (λ p q. Abandons p.inside span q.inside) (λ p q. Stays p.inside q.inside)
         handle.old.held.pipeline handle.new.held.pipeline }
     ensures free { IfSome handle.old.held.pipeline (λ p. IsSome (span_at p.inside.spans span) → result ≡ 0) }
 {
