@@ -9,7 +9,7 @@ import functools
 import threading
 from typing import Any, Callable, Deque, Dict, List, NamedTuple, Sequence, Tuple, TypeVar, Union, cast
 
-from . import _fork, _native
+from . import _declarations, _fork, _native
 from ._native import Counts
 from ._values import Encoded, text
 from .errors import Busy, NoSuchSpan, OtelError, OtherProcess
@@ -161,7 +161,7 @@ class Handle:
         return Started(key.value, self._identity(key.value))
 
     def _identity(self, key: int) -> Identity:
-        found = _native.Identity()
+        found = _declarations.Identity()
         try:
             self._call("otel_identity", key, found)
         except OtelError:
@@ -235,7 +235,7 @@ class Handle:
     @_in_turn
     def count(self) -> Counts:
         """How many spans are where."""
-        found = _native.Numbers()
+        found = _declarations.Numbers()
         self._call("otel_count", found)
         return Counts(*(getattr(found, name) for name in Counts._fields))
 

@@ -1,7 +1,6 @@
 # SPDX-License-Identifier: Apache-2.0
-"""The table of functions against otel.h, and where the library is looked for."""
+"""The statuses and counts against otel.h, and where the library is looked for."""
 
-import ctypes
 import os
 import re
 import subprocess
@@ -9,28 +8,11 @@ import sys
 import tempfile
 import unittest
 
-from otel_proved import _native, errors
+from otel_proved import _declarations, _native, errors
 
 from .support import PACKAGE_FOLDER
 
 HEADER = os.path.join(PACKAGE_FOLDER, "..", "c", "otel.h")
-TYPES = {
-    "const uint8_t *": ctypes.c_char_p,
-    "uint8_t *": ctypes.c_char_p,
-    "size_t *": ctypes.POINTER(ctypes.c_size_t),
-    "size_t": ctypes.c_size_t,
-    "uint64_t *": ctypes.POINTER(ctypes.c_uint64),
-    "const uint64_t *": ctypes.POINTER(ctypes.c_uint64),
-    "const int64_t *": ctypes.POINTER(ctypes.c_int64),
-    "const double *": ctypes.POINTER(ctypes.c_double),
-    "uint64_t": ctypes.c_uint64,
-    "int64_t": ctypes.c_int64,
-    "double": ctypes.c_double,
-    "uint32_t": ctypes.c_uint32,
-    "otel_handle *": ctypes.POINTER(_native.HandleMemory),
-    "otel_span_identity *": ctypes.POINTER(_native.Identity),
-    "otel_numbers *": ctypes.POINTER(_native.Numbers),
-}
 
 
 def header():
@@ -38,18 +20,7 @@ def header():
         return re.sub(r"(?s)/\*.*?\*/", "", file.read())
 
 
-def declared():
-    """The functions of the header, with the types of their arguments."""
-    for name, arguments in re.findall(r"uint32_t (otel_\w+)\(([^)]*)\);", header()):
-        yield name, [TYPES[re.match(r"\s*(.*?)\w+\s*$", it)[1].strip()] for it in arguments.split(",")]
-
-
 class Table(unittest.TestCase):
-    def test_functions_are_those_of_the_header(self):
-        handle = ctypes.POINTER(_native.HandleMemory)
-        table = {name: [handle, *arguments] for name, arguments in _native.FUNCTIONS.items()}
-        self.assertEqual(table, dict(declared()))
-
     def test_statuses_are_those_of_the_header(self):
         listed = re.search(r"enum otel_status \{([^}]*)\}", header())[1]
         statuses = {int(number): name for name, number in re.findall(r"OTEL_(\w+) = (\d+)", listed)}
@@ -57,11 +28,8 @@ class Table(unittest.TestCase):
         named = {status: kind.__name__.upper() for status, kind in _native._ERRORS.items()}
         self.assertEqual(named, {status: name.replace("_", "") for status, name in statuses.items()})
 
-    def test_structures_have_the_members_of_the_header(self):
-        for name, structure in (("otel_span_identity", _native.Identity), ("otel_numbers", _native.Numbers)):
-            body = re.search(r"typedef struct \{([^{}]*)\} " + name, header())[1]
-            members = [(it[1], TYPES[it[0]]) for it in re.findall(r"(\w+) (\w+);", body)]
-            self.assertEqual(members, structure._fields_)
+    def test_counts_have_the_members_of_the_header(self):
+        self.assertEqual([name for name, _ in _declarations.Numbers._fields_], list(_native.Counts._fields))
 
 
 class Places(unittest.TestCase):

@@ -5,11 +5,12 @@
 //! writing; each text and list is borrowed from start to end of the call, which copies it; and each answer is written
 //! to a variable of its type.
 
-use super::{
-    check, otel_close, otel_count, otel_drain, otel_flush, otel_ignored_settings, otel_open, otel_run, otel_shutdown,
+use super::declarations::{
+    otel_close, otel_count, otel_drain, otel_flush, otel_ignored_settings, otel_open, otel_run, otel_shutdown,
     otel_tracer, otel_with_bool, otel_with_bools, otel_with_float, otel_with_floats, otel_with_integer,
-    otel_with_integers, otel_with_text, otel_with_texts, Counts, Held, RawHandle, TracerKey,
+    otel_with_integers, otel_with_text, otel_with_texts,
 };
+use super::{check, Counts, Held, RawHandle, TracerKey};
 use crate::attributes::{Attribute, Value};
 use crate::moment::Moment;
 use crate::tracer::Library;

@@ -1,12 +1,13 @@
 // SPDX-License-Identifier: Apache-2.0
 //! The calls about one span. What makes them safe is said in `handle`.
 
-use super::handle::{filled, Handle};
-use super::{
-    check, otel_abandon, otel_add_event, otel_add_link, otel_add_remote_link, otel_end, otel_identity, otel_inject,
+use super::declarations::{
+    otel_abandon, otel_add_event, otel_add_link, otel_add_remote_link, otel_end, otel_identity, otel_inject,
     otel_record_exception, otel_set_attributes, otel_set_bool, otel_set_float, otel_set_integer, otel_set_status,
-    otel_set_text, otel_start, otel_start_remote, otel_update_name, SpanIdentity, SpanKey, TracerKey,
+    otel_set_text, otel_start, otel_start_remote, otel_update_name,
 };
+use super::handle::{filled, Handle};
+use super::{check, SpanIdentity, SpanKey, TracerKey};
 use crate::attributes::{Attribute, Value};
 use crate::headers::Extracted;
 use crate::moment::Moment;
