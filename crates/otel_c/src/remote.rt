@@ -29,7 +29,7 @@ pub extern "C" fn otel_start_remote(
     moment: u64,
     key: &mut u64,
 ) -> u32
-    ensures { Answers result (λ p q. (asked : TheKinds) × IsKind kind asked × StartsIn
+    ensures answers { Answers result (λ p q. (asked : TheKinds) × IsKind kind asked × StartsIn
         ⟦<HostInside as HostPipeline>⟧.calls (IsContextOf (record {
           traceparent = traceparent.now;
           tracestate = tracestate.now;

@@ -53,7 +53,7 @@ pub extern "C" fn otel_start(
     moment: u64,
     key: &mut u64,
 ) -> u32
-    ensures { Answers result (λ p q. (asked : TheKinds) × IsKind kind asked × StartsIn
+    ensures answers { Answers result (λ p q. (asked : TheKinds) × IsKind kind asked × StartsIn
         ⟦<HostInside as HostPipeline>⟧.calls (IsContextUnder p.inside.spans parent) p.inside tracer asked moment
         name.now key.new q.inside)
         (λ p q. RefusesIn ⟦<HostInside as HostPipeline>⟧.calls p.inside q.inside)
@@ -100,7 +100,7 @@ pub extern "C" fn otel_identity(
 /// Ends a span, which is handed on for export where it is sampled. Its key names nothing from then on.
 #[unsafe(no_mangle)]
 pub extern "C" fn otel_end(alloc: Global, handle: &mut Handle, span: u64, moment: u64) -> u32
-    ensures { Answers result (λ p q. EndsSpan ⟦<HostInside as HostPipeline>⟧.calls.processor p.inside span moment
+    ensures answers { Answers result (λ p q. EndsSpan ⟦<HostInside as HostPipeline>⟧.calls.processor p.inside span moment
         q.inside) (λ p q. Stays p.inside q.inside) handle.old.held.pipeline handle.new.held.pipeline }
     ensures free { IfSome handle.old.held.pipeline (λ p. EndNeedsNone p.inside span → result ≡ 0) }
 {
@@ -115,7 +115,7 @@ pub extern "C" fn otel_end(alloc: Global, handle: &mut Handle, span: u64, moment
 /// Ends a span without handing it on.
 #[unsafe(no_mangle)]
 pub extern "C" fn otel_abandon(alloc: Global, handle: &mut Handle, span: u64) -> u32
-    ensures { Answers result (λ p q. Abandons p.inside span q.inside) (λ p q. Stays p.inside q.inside)
+    ensures answers { Answers result (λ p q. Abandons p.inside span q.inside) (λ p q. Stays p.inside q.inside)
         handle.old.held.pipeline handle.new.held.pipeline }
     ensures free { IfSome handle.old.held.pipeline (λ p. IsSome (span_at p.inside.spans span) → result ≡ 0) }
 {
