@@ -182,6 +182,14 @@ impl Sink {
         self.varint(value);
     }
 
+    /// A field that holds a number of eight bytes, also where that is 0.
+    pub fn fixed64_field(&mut self, number: u32, value: u64)
+        ensures { TakesFields self.old self.new (one number (fixed64 value)) }
+    {
+        self.key(number, 1);
+        self.take(&value.to_le_bytes());
+    }
+
     /// A field that holds bytes, also where there are none.
     pub fn bytes_field(&mut self, number: u32, value: &[u8])
         ensures { TakesFields self.old self.new (one number (bytes value.now)) }
@@ -204,8 +212,7 @@ impl Sink {
         ensures { TakesFields self.old self.new (unless_zero number fixed64 value) }
     {
         if value != 0 {
-            self.key(number, 1);
-            self.take(&value.to_le_bytes());
+            self.fixed64_field(number, value);
         }
     }
 
