@@ -1,8 +1,11 @@
 """The form of OTLP JSON that an exporter here writes: one text for each request, all members, in one order."""
 
 import json
+import math
 import os
 import re
+
+WORDS = ("NaN", "Infinity", "-Infinity")
 
 
 class Fault(Exception):
@@ -26,16 +29,36 @@ def shown(value):
     return text if len(text) <= 40 else text[:40] + ".."
 
 
-def members_once(pairs):
-    """An object, of which no two members have one name."""
-    names = [name for name, _ in pairs]
-    for name in names:
-        hold(names.count(name) == 1, "", f"has the member {shown(name)} twice in one object")
-    return dict(pairs)
+class Float(float):
+    """A number with a point or an exponent, and the text that it has in a line."""
+
+    def __new__(cls, text):
+        it = super().__new__(cls, text)
+        it.text = text
+        return it
 
 
 def no_integer(number):
     raise Fault("", f"has the number {number[:40]}, which is no integer")
+
+
+def members_once(pairs):
+    """An object, of which no two members have one name, and none but a doubleValue is a float."""
+    names = [name for name, _ in pairs]
+    for name, value in pairs:
+        hold(names.count(name) == 1, "", f"has the member {shown(name)} twice in one object")
+        if type(value) is Float and name != "doubleValue":
+            no_integer(value.text)
+    return dict(pairs)
+
+
+def compact_of(tree):
+    """The text of a tree without spaces; that of a float is the one that it has in the line."""
+    if type(tree) is dict:
+        return "{" + ",".join(f"{compact_of(name)}:{compact_of(it)}" for name, it in tree.items()) + "}"
+    if type(tree) is list:
+        return "[" + ",".join(compact_of(it) for it in tree) + "]"
+    return tree.text if type(tree) is Float else json.dumps(tree, ensure_ascii=False)
 
 
 def tree_of(line):
@@ -44,8 +67,8 @@ def tree_of(line):
     hold(line != b"\n", "", "is empty")
     try:
         text = line[:-1].decode()
-        tree = json.loads(text, object_pairs_hook=members_once, parse_float=no_integer, parse_constant=no_integer)
-        compact = json.dumps(tree, ensure_ascii=False, separators=(",", ":"))
+        tree = json.loads(text, object_pairs_hook=members_once, parse_float=Float, parse_constant=no_integer)
+        compact = compact_of(tree)
     except UnicodeDecodeError as error:
         raise Fault(f"byte {error.start + 1}", "is not UTF-8") from None
     except json.JSONDecodeError as error:
@@ -54,7 +77,7 @@ def tree_of(line):
         raise Fault("", f"is no JSON that can be read: {error}") from None
     at = len(os.path.commonprefix([text, compact]))
     hold(text == compact, f"character {at + 1}", f"begins {shown(text[at:at + 8])}, not {shown(compact[at:at + 8])}")
-    return tree
+    return json.loads(text)
 
 
 def also(look, is_so, what):
@@ -84,6 +107,11 @@ def number(low, high):
 def digits(low, high):
     decimal = matching("0|-?[1-9][0-9]{0,19}", "text of decimal digits")
     return also(decimal, lambda it: low <= int(it) <= high, f"is not from {low} to {high}")
+
+
+def double(value, path):
+    is_finite = type(value) is float and math.isfinite(value)
+    hold(is_finite or value in WORDS, path, f"is {shown(value)}, no float")
 
 
 def list_of(look_at_item):
@@ -142,7 +170,7 @@ TEXT = typed(str, "text")
 INTEGER = digits(-(2**63), 2**63 - 1)
 ITEMS = also(list_of(item_of_array), is_of_one_kind, "has items of more than one kind")
 ARRAY = object_of(values=ITEMS)
-VALUES = {"boolValue": typed(bool, "boolean"), "intValue": INTEGER, "stringValue": TEXT, "arrayValue": ARRAY}
+VALUES = {"boolValue": typed(bool, "boolean"), "intValue": INTEGER, "stringValue": TEXT, "doubleValue": double, "arrayValue": ARRAY}
 ATTRIBUTES = list_of(object_of(key=TEXT, value=any_value))
 NONE = number(0, 0)
 COUNT = number(0, 2**32 - 1)
