@@ -61,6 +61,14 @@ fields_in (json.string text) = []
 fields_in (json.array items) = []
 fields_in (json.object object) = fields_of object
 
+-- the name of the first member
+abbrev first_name : List Field → List ℕ
+first_name [] = []
+first_name (field ∷ fields) = field.0
+
+abbrev pub name_in : Json → List ℕ
+name_in j = first_name (fields_in j)
+
 abbrev value_at : ℕ → List Field → Json
 value_at place [] = json.null
 value_at zero (field ∷ fields) = field.1

@@ -1,9 +1,11 @@
 pub mod Adding
 pub mod BatchesAlike
 pub mod Fitting
+pub mod Floats
 pub mod JsonParts
 pub mod LineLemmas
 pub mod LinesCut
+pub mod NoFeed
 pub mod Numbers
 pub mod NumbersAlike
 pub mod ReadsBack

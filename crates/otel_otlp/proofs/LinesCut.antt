@@ -6,7 +6,8 @@ use Rattle.std.proofs.lemmas.Bool.Decides.{nat_tests}
 use Rattle.otel_resource.specs.Resource.{PlainResource}
 use Rattle.otel_export.specs.PlainSpanData.{PlainSpanData}
 use Rattle.otel_otlp.specs.Otlp.{otlp_lines, otlp_text}
-use Rattle.otel_otlp.proofs.Unbroken.{NoFeed, text_no_feed}
+use Rattle.otel_otlp.proofs.NoFeed.{NoFeed}
+use Rattle.otel_otlp.proofs.Unbroken.{text_no_feed}
 
 no_feed : (b : ℕ) → b ≢ 10 → (b == 10) ≡ false
 no_feed b h = grind (arith, nat_tests)

@@ -1,9 +1,10 @@
 -- The text of a request has no line feed: each byte below a space is escaped, and a number is written in digits.
-use Rattle.std.proofs.Common.{◌≡◌, ◌≢◌, ◌/◌, ◌%◌, ◌==◌, ℕ, ℤ, zero, suc, Bool, true, false, cond, List, [], ◌∷◌, ◌++◌}
-use Rattle.std.proofs.Common.{arith, codes, decimal, map, nat_lt, refl}
+use Rattle.std.proofs.Common.{◌≡◌, ◌≢◌, ◌/◌, ◌%◌, ℕ, ℤ, Bool, true, false, List, [], ◌∷◌, ◌++◌, arith, codes, map}
+use Rattle.std.proofs.Common.{nat_lt}
 use Rattle.std.specs.Char.{digit_char}
 use Rattle.std.specs.FinMap.{entries}
-use Rattle.std.specs.Fmt.{digit_glyph, digits, digits_onto}
+use Rattle.std.specs.Float.{Float}
+use Rattle.std.specs.Float.Ieee.{nan, inf, fin}
 use Rattle.std.specs.List.{AllByRecursion}
 use Rattle.std.proofs.lemmas.Bool.Decides.{nat_tests}
 use Rattle.json.specs.Json.{Json, array}
@@ -11,7 +12,7 @@ use Rattle.json.specs.Print.{ends, escape, escape_byte, escape_letter, print_fro
 use Rattle.json.specs.Token.{Token}
 use Rattle.json.specs.Tree.{items_tokens, json_tokens, members_tokens}
 use Rattle.opentelemetry.specs.Plain.{PlainEvent, PlainKeyValue, PlainLink, PlainScope, PlainStatus, PlainValue}
-use Rattle.opentelemetry.specs.Plain.{boolean, integer, text, booleans, integers, texts}
+use Rattle.opentelemetry.specs.Plain.{boolean, integer, text, booleans, integers, texts, double, doubles}
 use Rattle.otel_resource.specs.Resource.{PlainResource}
 use Rattle.otel_export.specs.PlainSpanData.{PlainSpanData}
 use Rattle.otel_otlp.specs.Fields.{Field, items_of, list_json, members_of, object_json}
@@ -22,40 +23,16 @@ use Rattle.otel_otlp.specs.Otlp.{request, resource_fields, resource_json, resour
 use Rattle.otel_otlp.specs.Otlp.{run_fields, run_json, scope_fields, scope_json}
 use Rattle.otel_otlp.specs.OtlpSpan.{span_fields, span_json, status_fields}
 use Rattle.otel_otlp.specs.OtlpSpan.{status_json}
-use Rattle.otel_otlp.specs.OtlpValues.{attribute_json, attributes_fields, bool_json, integer_json, number_field}
-use Rattle.otel_otlp.specs.OtlpValues.{pair_fields, pair_json, single, text_json, value_json}
+use Rattle.otel_otlp.specs.OtlpValues.{attribute_json, attributes_fields, bool_json, double_json, integer_json}
+use Rattle.otel_otlp.specs.OtlpValues.{number_field, pair_fields, pair_json, single, text_json, value_json}
 use Rattle.otel_otlp.specs.ScopeRuns.{run_scope, scope_runs}
 use Rattle.otel_otlp.proofs.Fitting.{all_joined}
+use Rattle.otel_otlp.proofs.NoFeed.{NoFeed, NotFeed, decimal_no_feed, either, float_no_feed}
 
--- no byte ends a line
-abbrev NotFeed : ℕ → Type 0
-NotFeed b = b ≢ 10
-
-abbrev pub NoFeed : List ℕ → Type 0
-NoFeed bytes = AllByRecursion NotFeed bytes
-
-either : (test : Bool) (xs ys : List ℕ) → (test ≡ true → NoFeed xs) → (test ≡ false → NoFeed ys)
-    → NoFeed (cond test xs ys)
-either true xs ys h k = h refl
-either false xs ys h k = k refl
-
-glyph : (d : ℕ) → digit_glyph false d ≢ 10
-glyph d = grind (arith, nat_tests)
-
+-- what stands for a byte in a string
 digit : (d : ℕ) → digit_char d ≢ 10
 digit d = grind (arith, nat_tests)
 
--- digits
-digits_no_feed : (k n : ℕ) (acc : List ℕ) → NoFeed acc → NoFeed (digits_onto k 10 false n acc)
-digits_no_feed zero n acc h = h
-digits_no_feed (suc k) n acc h =
-    either (n / 10 == 0) _ _ (λ e. (glyph (n % 10), h)) (λ e. digits_no_feed k (n / 10) _ (glyph (n % 10), h))
-
-decimal_no_feed : (n : ℕ) → NoFeed (decimal n)
-unfolding digits
-decimal_no_feed n = digits_no_feed 64 n [] tt
-
--- what stands for a byte in a string
 letter : (x : ℕ) → escape_letter x ≢ 10
 letter x = grind (arith, nat_tests)
 
@@ -168,6 +145,12 @@ integer_unbroken number = (tt, (tt, (tt, (tt, tt))))
 text_unbroken : (bytes : List ℕ) → UnbrokenJson (text_json bytes)
 text_unbroken bytes = (tt, (tt, (tt, (tt, tt))))
 
+float_unbroken : (x : Float) → UnbrokenJson (double_json x)
+float_unbroken nan = (tt, (tt, (tt, (tt, tt))))
+float_unbroken (inf true) = (tt, (tt, (tt, (tt, tt))))
+float_unbroken (inf false) = (tt, (tt, (tt, (tt, tt))))
+float_unbroken (fin s m e) = (tt, (tt, (float_no_feed (fin s m e), (tt, tt))))
+
 value_unbroken : (v : PlainValue) → UnbrokenJson (value_json v)
 value_unbroken (boolean b) = bool_unbroken b
 value_unbroken (integer n) = integer_unbroken n
@@ -175,6 +158,8 @@ value_unbroken (text bs) = text_unbroken bs
 value_unbroken (booleans bs) = array_unbroken (map bool_json bs) (items_unbroken bool_json bool_unbroken bs)
 value_unbroken (integers ns) = array_unbroken (map integer_json ns) (items_unbroken integer_json integer_unbroken ns)
 value_unbroken (texts ts) = array_unbroken (map text_json ts) (items_unbroken text_json text_unbroken ts)
+value_unbroken (double x) = float_unbroken x
+value_unbroken (doubles xs) = array_unbroken (map double_json xs) (items_unbroken double_json float_unbroken xs)
 
 pair_unbroken : (p : List ℕ × PlainValue) → UnbrokenJson (pair_json p)
 pair_unbroken p = object_unbroken (pair_fields p) ((tt, tt), (value_unbroken p.1, tt))

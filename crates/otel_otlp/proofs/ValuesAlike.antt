@@ -1,17 +1,24 @@
 -- Values and attributes that are written alike are seen alike.
-use Rattle.std.proofs.Common.{◌≡◌, ℕ, ℤ, Bool, List, [], ◌∷◌, map, ap, sym, refl, ◌∙◌}
+use Rattle.std.proofs.Common.{◌≡◌, ℕ, ℤ, Bool, true, false, List, [], ◌∷◌, Some, get_or, length, map, arith}
+use Rattle.std.proofs.Common.{ap, sym, refl, ◌∙◌}
 use Rattle.std.proofs.lemmas.Fmt.{signed_decimal_injective}
 use Rattle.std.proofs.lemmas.List.{map-id}
+use Rattle.std.specs.Bool.{passes}
+use Rattle.std.specs.Float.Ieee.{Float, binary64, nan, inf, fin}
+use Rattle.std.specs.Float.Parse.{parse_float}
 use Rattle.std.specs.Int.{w64}
 use Rattle.std.specs.List.{AllByRecursion}
 use Rattle.std.specs.Prelude.{FitsSigned, ⊤}
 use Rattle.json.specs.Json.{Json}
 use Rattle.opentelemetry.specs.Plain.{PlainKeyValue, PlainValue, boolean, integer, text, booleans, integers, texts}
+use Rattle.opentelemetry.specs.Plain.{double, doubles}
+use Rattle.otel_float.proofs.Texts.{reads}
 use Rattle.otel_otlp.specs.Fields.{list_json}
-use Rattle.otel_otlp.specs.Fits.{AttributeFits, PairFits, ValueFits}
-use Rattle.otel_otlp.specs.OtlpValues.{attribute_json, bool_json, integer_json, pair_json, text_json, value_json}
+use Rattle.otel_otlp.specs.Fits.{AttributeFits, FloatFits, PairFits, ValueFits}
+use Rattle.otel_otlp.specs.OtlpValues.{attribute_json, bool_json, double_json, integer_json, pair_json, text_json}
+use Rattle.otel_otlp.specs.OtlpValues.{value_json}
 use Rattle.otel_otlp.specs.Seen.{seen_attribute, seen_pair, seen_value}
-use Rattle.otel_otlp.proofs.JsonParts.{first_in, lists_alike, part, text_part, truth_in}
+use Rattle.otel_otlp.proofs.JsonParts.{first_in, lists_alike, name_in, part, text_part, truth_in}
 
 bools_same : (a b : Bool) → ⊤ → ⊤ → bool_json a ≡ bool_json b → a ≡ b
 bools_same a b h k e = ap (λ j. truth_in (part 0 j)) e
@@ -22,10 +29,38 @@ integers_same a b h k e = signed_decimal_injective a b h.sfits k.sfits (ap (text
 texts_same : (a b : List ℕ) → ⊤ → ⊤ → text_json a ≡ text_json b → a ≡ b
 texts_same a b h k e = ap (text_part 0) e
 
+-- a number is of one float, and the three words are apart by their lengths
+floats_same : (a b : Float) → FloatFits a → FloatFits b → double_json a ≡ double_json b → a ≡ b
+floats_same nan nan h k e = refl
+floats_same (inf true) (inf true) h k e = refl
+floats_same (inf false) (inf false) h k e = refl
+floats_same (fin s m x) (fin t n y) h k e =
+    let one = reads (fin s m x) (passes _ h) in
+    let other = reads (fin t n y) (passes _ k) in
+    let same : Some (fin s m x) ≡ Some (fin t n y) =
+    sym one.parses ∙ ap (λ j. parse_float binary64 (text_part 0 j)) e ∙ other.parses in
+    cc
+floats_same nan (inf true) h k e = absurd (omega (arith, ap (λ j. length (text_part 0 j)) e))
+floats_same nan (inf false) h k e = absurd (omega (arith, ap (λ j. length (text_part 0 j)) e))
+floats_same (inf true) nan h k e = absurd (omega (arith, ap (λ j. length (text_part 0 j)) e))
+floats_same (inf false) nan h k e = absurd (omega (arith, ap (λ j. length (text_part 0 j)) e))
+floats_same (inf true) (inf false) h k e = absurd (omega (arith, ap (λ j. length (text_part 0 j)) e))
+floats_same (inf false) (inf true) h k e = absurd (omega (arith, ap (λ j. length (text_part 0 j)) e))
+floats_same nan (fin t n y) h k e = absurd cc
+floats_same (inf true) (fin t n y) h k e = absurd cc
+floats_same (inf false) (fin t n y) h k e = absurd cc
+floats_same (fin s m x) nan h k e = absurd cc
+floats_same (fin s m x) (inf true) h k e = absurd cc
+floats_same (fin s m x) (inf false) h k e = absurd cc
+
 -- of texts and truths nothing is asked
 pub anything : {X : Type 0} (xs : List X) → AllByRecursion (λ x. ⊤) xs
 anything [] = tt
 anything (x ∷ xs) = (tt, anything xs)
+
+-- a text is no float
+text_apart : (a : List ℕ) (x : Float) → text_json a ≡ double_json x → ⊥
+text_apart a x e = omega (arith, ap (λ j. get_or (name_in j) 0 0) e)
 
 -- the same of lists
 lists_same : {X : Type 0} (json : X → Json) (P : X → Type 0)
@@ -59,6 +94,10 @@ values_alike (integers a) (integers b) h k e =
 values_alike (texts a) (texts b) h k e =
     ap (λ x. seen_value (texts x))
     (lists_same text_json (λ x. ⊤) texts_same a b (anything a) (anything b) (ap (λ j. part 0 (part 0 j)) e))
+values_alike (double a) (double b) h k e = ap (λ x. double x) (floats_same a b h k e)
+values_alike (doubles a) (doubles b) h k e =
+    ap (λ x. seen_value (doubles x))
+    (lists_same double_json FloatFits floats_same a b h k (ap (λ j. part 0 (part 0 j)) e))
 values_alike (booleans a) (integers b) h k e =
     empty_alike bool_json integer_json booleans integers refl (λ x y same. cc) a b (ap (λ j. part 0 (part 0 j)) e)
 values_alike (booleans a) (texts b) h k e =
@@ -71,6 +110,21 @@ values_alike (texts a) (booleans b) h k e =
     empty_alike text_json bool_json texts booleans refl (λ x y same. cc) a b (ap (λ j. part 0 (part 0 j)) e)
 values_alike (texts a) (integers b) h k e =
     empty_alike text_json integer_json texts integers refl (λ x y same. cc) a b (ap (λ j. part 0 (part 0 j)) e)
+values_alike (booleans a) (doubles b) h k e =
+    empty_alike bool_json double_json booleans doubles refl (λ x y same. cc) a b (ap (λ j. part 0 (part 0 j)) e)
+values_alike (doubles a) (booleans b) h k e =
+    empty_alike double_json bool_json doubles booleans refl (λ x y same. cc) a b (ap (λ j. part 0 (part 0 j)) e)
+values_alike (integers a) (doubles b) h k e =
+    empty_alike integer_json double_json integers doubles refl (λ x y same. cc) a b (ap (λ j. part 0 (part 0 j)) e)
+values_alike (doubles a) (integers b) h k e =
+    empty_alike double_json integer_json doubles integers refl (λ x y same. cc) a b (ap (λ j. part 0 (part 0 j)) e)
+values_alike (texts a) (doubles b) h k e =
+    empty_alike text_json double_json texts doubles refl text_apart a b (ap (λ j. part 0 (part 0 j)) e)
+values_alike (doubles a) (texts b) h k e =
+    empty_alike double_json text_json doubles texts refl (λ x y same. text_apart y x (sym same)) a b
+    (ap (λ j. part 0 (part 0 j)) e)
+values_alike (text a) (double b) h k e = absurd (text_apart a b e)
+values_alike (double a) (text b) h k e = absurd (text_apart b a (sym e))
 values_alike v w h k e = absurd cc
 
 pub pairs_alike : (p q : List ℕ × PlainValue) → PairFits p → PairFits q → pair_json p ≡ pair_json q

@@ -1,15 +1,20 @@
 -- What resources and ended spans have by their types alone: numbers of so many bits, and trace states of pairs.
-use Rattle.std.specs.Prelude.{ℕ, ◌^◌, ◌<◌, List, FitsSigned, ⊤}
+use Rattle.std.specs.Prelude.{ℕ, ◌^◌, ◌<◌, List, FitsSigned, IsTrue, ⊤}
 use Rattle.std.specs.FinMap.{entries}
+use Rattle.std.specs.Float.Ieee.{Float, binary64, fits}
 use Rattle.std.specs.Int.{w64}
 use Rattle.std.specs.List.{AllByRecursion}
 use Rattle.opentelemetry.specs.Plain.{PlainEvent, PlainKeyValue, PlainLink, PlainSpanContext}
-use Rattle.opentelemetry.specs.Plain.{PlainValue, boolean, integer, text, booleans, integers, texts}
+use Rattle.opentelemetry.specs.Plain.{PlainValue, boolean, integer, text, booleans, integers, texts, double, doubles}
 use Rattle.opentelemetry.specs.Tracestate.{ArePairs}
 use Rattle.otel_resource.specs.Resource.{PlainResource}
 use Rattle.otel_export.specs.PlainSpanData.{PlainSpanData}
 
--- the integers of a value are in the range of i64
+-- a float is one of 64 bits
+abbrev pub FloatFits : Float → Type 0
+FloatFits x = IsTrue (fits binary64 x)
+
+-- the integers of a value are in the range of i64, and its floats are f64
 abbrev pub ValueFits : PlainValue → Type 0
 ValueFits (boolean truth) = ⊤
 ValueFits (integer number) = FitsSigned w64 number
@@ -17,6 +22,8 @@ ValueFits (text bytes) = ⊤
 ValueFits (booleans truths) = ⊤
 ValueFits (integers numbers) = AllByRecursion (FitsSigned w64) numbers
 ValueFits (texts many) = ⊤
+ValueFits (double x) = FloatFits x
+ValueFits (doubles xs) = AllByRecursion FloatFits xs
 
 -- the value of an attribute fits
 abbrev pub AttributeFits : PlainKeyValue → Type 0

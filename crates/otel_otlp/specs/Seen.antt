@@ -3,7 +3,7 @@
 use Rattle.std.specs.Prelude.{ℕ, false, List, [], ◌∷◌, Some, map}
 use Rattle.std.specs.FinMap.{entries}
 use Rattle.opentelemetry.specs.Plain.{PlainEvent, PlainKeyValue, PlainLink, PlainScope}
-use Rattle.opentelemetry.specs.Plain.{PlainValue, boolean, integer, text, booleans, integers, texts}
+use Rattle.opentelemetry.specs.Plain.{PlainValue, boolean, integer, text, booleans, integers, texts, double, doubles}
 use Rattle.otel_resource.specs.Resource.{PlainResource}
 use Rattle.otel_export.specs.PlainSpanData.{PlainSpanData}
 use Rattle.otel_otlp.specs.Otlp.{or_empty}
@@ -18,6 +18,9 @@ seen_value (integers []) = booleans []
 seen_value (integers (number ∷ numbers)) = integers (number ∷ numbers)
 seen_value (texts []) = booleans []
 seen_value (texts (bytes ∷ many)) = texts (bytes ∷ many)
+seen_value (double x) = double x
+seen_value (doubles []) = booleans []
+seen_value (doubles (x ∷ xs)) = doubles (x ∷ xs)
 
 -- an attribute, by its value
 abbrev pub seen_attribute : PlainKeyValue → PlainKeyValue

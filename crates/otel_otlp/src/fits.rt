@@ -5,7 +5,7 @@ ghost use Rattle.std.specs.Prelude.{◌^◌, ◌<◌, FitsSigned};
 ghost use Rattle.std.specs.Int.{w64};
 ghost use Rattle.std.specs.List.{AllByRecursion};
 ghost use Rattle.opentelemetry.specs.PlainValues.{plain_array, plain_value};
-ghost use Rattle.otel_otlp.specs.Fits.{AttributeFits, ContextFits, EventFits, LinkFits};
+ghost use Rattle.otel_otlp.specs.Fits.{AttributeFits, ContextFits, EventFits, FloatFits, LinkFits};
 ghost use Rattle.otel_otlp.specs.Fits.{ResourceFits, SpanFits, ValueFits};
 
 use opentelemetry::laws::span_contexts_fit;
@@ -22,12 +22,27 @@ fn integers_fit(numbers: &[i64])
     }
 }
 
+fn float_fits(number: f64)
+    ensures { FloatFits number }
+{
+    let _number = number;
+}
+
+fn floats_fit(numbers: &[f64])
+    ensures { AllByRecursion FloatFits numbers.now }
+{
+    for number in numbers {
+        float_fits(*number);
+    }
+}
+
 fn array_fits(array: &Array)
     ensures { ValueFits (plain_array array.now) }
 {
     match array {
         Array::Bool(_) | Array::String(_) => {}
         Array::I64(numbers) => integers_fit(numbers),
+        Array::F64(numbers) => floats_fit(numbers),
     }
 }
 
@@ -40,6 +55,7 @@ fn value_fits(value: &Value)
             let _number = *number;
         }
         Value::Array(array) => array_fits(array),
+        Value::F64(number) => float_fits(*number),
     }
 }
 

@@ -31,9 +31,10 @@ pub fn json_loses_nothing()
 /// The text of a batch is a JSON document: that of its request. So a line is of one request.
 pub fn lines_read_back()
     ensures document { (resource : PlainResource) (batch : List PlainSpanData)
-        → AllByRecursion SpanFits batch
+        → ResourceFits resource → AllByRecursion SpanFits batch
         → document (otlp_text resource batch) ≡ Some (request resource batch) }
     ensures once { (these those : PlainResource) (batch other : List PlainSpanData)
+        → ResourceFits these → ResourceFits those
         → AllByRecursion SpanFits batch → AllByRecursion SpanFits other
         → otlp_line these batch ≡ otlp_line those other → request these batch ≡ request those other }
 {}

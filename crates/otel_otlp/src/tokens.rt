@@ -5,17 +5,19 @@ ghost use Rattle.std.specs.Prelude.{◌≡◌, ◌++◌, ◌∷◌, [], decimal}
 ghost use Rattle.std.specs.Fmt.{signed_decimal};
 ghost use Rattle.std.specs.Option.{option_copied};
 ghost use Rattle.json.specs.Lex.{tokens};
-ghost use Rattle.json.specs.Print.{print};
+ghost use Rattle.json.specs.Print.{IsNumber, print};
 ghost use Rattle.json.specs.Token.{Token};
 ghost use Rattle.json.specs.Token as token;
+ghost use Rattle.json.specs.Tree.{json_tokens};
 ghost use Rattle.opentelemetry.specs.Hex.{hex_text};
 ghost use Rattle.otel_otlp.specs.Fields.{Adds, fields_tokens};
 ghost use Rattle.otel_otlp.specs.Otlp.{or_empty};
 ghost use Rattle.otel_otlp.specs.OtlpSpan.{parent_text};
-ghost use Rattle.otel_otlp.specs.OtlpValues.{moment_field, number_field, text_field};
+ghost use Rattle.otel_otlp.specs.OtlpValues.{float_json, moment_field, number_field, text_field};
 
 use json::Writer;
 use opentelemetry::{SpanId, TraceId};
+use otel_float::FloatText;
 use std::alloc::AllocError;
 use std::fmt::Write;
 use std::marker::Model;
@@ -102,6 +104,28 @@ impl RequestWriter {
         ensures { Adds result self.old self.new (token.string (signed_decimal number) ∷ []) }
     {
         self.out.quoted_i64(number)
+    }
+
+    fn number(&mut self, text: &str) -> Result<(), AllocError>
+        requires { IsNumber text.now }
+        ensures { Adds result self.old self.new (token.number text.now ∷ []) }
+    {
+        self.out.number(text)
+    }
+
+    /// A float: its number, or the word of one that is not finite.
+    pub(crate) fn float(&mut self, number: f64) -> Result<(), AllocError>
+        ensures { Adds result self.old self.new (json_tokens (float_json number)) }
+    {
+        if number.is_nan() {
+            self.string("NaN")
+        } else if number.is_finite() {
+            self.number(FloatText::new(number).as_str())
+        } else if number.is_sign_negative() {
+            self.string("-Infinity")
+        } else {
+            self.string("Infinity")
+        }
     }
 
     /// A text.

@@ -5,7 +5,7 @@ ghost use Rattle.json.specs.Tree.{json_tokens};
 ghost use Rattle.opentelemetry.specs.PlainValues.{plain_array, plain_value};
 ghost use Rattle.otel_otlp.specs.Fields.{Adds, each_tokens, fields_tokens, list_tokens};
 ghost use Rattle.otel_otlp.specs.OtlpValues.{array_items, array_json, attribute_json, attributes_fields, bool_json};
-ghost use Rattle.otel_otlp.specs.OtlpValues.{integer_json, pair_json, text_json, value_json};
+ghost use Rattle.otel_otlp.specs.OtlpValues.{double_json, integer_json, pair_json, text_json, value_json};
 
 use crate::tokens::RequestWriter;
 use opentelemetry::{Array, Key, KeyValue, Value};
@@ -27,6 +27,15 @@ impl RequestWriter {
         self.begin_object()?;
         self.key("intValue")?;
         self.integer(number)?;
+        self.end_object()
+    }
+
+    fn float_value(&mut self, number: f64) -> Result<(), AllocError>
+        ensures { Adds result self.old self.new (json_tokens (double_json number)) }
+    {
+        self.begin_object()?;
+        self.key("doubleValue")?;
+        self.float(number)?;
         self.end_object()
     }
 
@@ -57,6 +66,15 @@ impl RequestWriter {
         Ok(())
     }
 
+    fn float_items(&mut self, items: &[f64]) -> Result<(), AllocError>
+        ensures { Adds result self.old self.new (list_tokens double_json items.now) }
+    {
+        for item in items {
+            self.float_value(*item)?;
+        }
+        Ok(())
+    }
+
     fn text_items(&mut self, items: &[String]) -> Result<(), AllocError>
         ensures { Adds result self.old self.new
             (list_tokens text_json (map (λ item. string_bytes item) items.now)) }
@@ -74,6 +92,7 @@ impl RequestWriter {
             Array::Bool(items) => self.bool_items(items),
             Array::I64(items) => self.integer_items(items),
             Array::String(items) => self.text_items(items),
+            Array::F64(items) => self.float_items(items),
         }
     }
 
@@ -99,6 +118,7 @@ impl RequestWriter {
             Value::I64(number) => self.integer_value(*number),
             Value::String(text) => self.text_value(text.as_str()),
             Value::Array(array) => self.array_value(array),
+            Value::F64(number) => self.float_value(*number),
         }
     }
 
