@@ -1,36 +1,42 @@
 -- A request fits the widths of its fields, where its spans do.
 use Rattle.std.proofs.Common.{ℕ, ◌^◌, ◌<◌, arith, Bool, true, false, cond, eqb, leb, List, [], ◌∷◌, ◌++◌, map}
-use Rattle.std.specs.Bool.{⊤}
+use Rattle.std.specs.Bool.{passes, ⊤}
+use Rattle.std.specs.Float.{Float, binary64}
 use Rattle.std.specs.List.{flat_map, AllByRecursion}
 use Rattle.std.specs.FinMap.{entries}
+use Rattle.std.specs.Prelude.{to_bits}
+use lib.Ieee.Bits.{to_bits-lt}
 use Rattle.opentelemetry.specs.Plain.{PlainEvent, PlainKeyValue, PlainLink, PlainScope}
-use Rattle.opentelemetry.specs.Plain.{PlainValue, boolean, booleans, integers, texts}
+use Rattle.opentelemetry.specs.Plain.{PlainValue, boolean, booleans, integers, texts, double, doubles}
 use Rattle.opentelemetry.specs.Plain as plain
 use Rattle.otel_resource.specs.Resource.{PlainResource}
 use Rattle.otel_export.specs.PlainSpanData.{PlainSpanData}
-use Rattle.otel_otlp.proofs.RunsFit.{RunFits, batch_runs_fit}
-use Rattle.otel_otlp.specs.Fits.{EventFits, LinkFits, SpanFits}
+use Rattle.otel_otlp.proofs.RunsFit.{RunFits, batch_runs_fit, scope_fits}
+use Rattle.otel_otlp.specs.Fits.{AttributeFits, EventFits, FloatFits, LinkFits, PairFits, ResourceFits, SpanFits}
+use Rattle.otel_otlp.specs.Fits.{ValueFits}
 use Rattle.otel_otlp.specs.OtlpSpan.{flags_of}
 use Rattle.otel_otlp.specs.ScopeRuns.{run_scope, scope_runs}
 use Rattle.otel_otlp_protobuf.specs.NamedRequest.{request_members, resource_members, run_members}
 use Rattle.otel_otlp_protobuf.specs.NamedRequest.{scope_members}
 use Rattle.otel_otlp_protobuf.specs.NamedSpan.{event_members, link_members, span_members}
-use Rattle.otel_otlp_protobuf.specs.NamedValues.{attribute_members, integer_members, pair_members, text_members}
-use Rattle.otel_otlp_protobuf.specs.NamedValues.{truth_members, value_members}
-use Rattle.otel_otlp_protobuf.specs.Said.{Said, truth, integer, chosen_text, text, number, moment, flags, trace_id, span_id}
-use Rattle.otel_otlp_protobuf.specs.Said.{parent_id, message, messages, Members, no_members, member, Items, no_items, item}
+use Rattle.otel_otlp_protobuf.specs.NamedValues.{attribute_members, float_members, integer_members, pair_members}
+use Rattle.otel_otlp_protobuf.specs.NamedValues.{text_members, truth_members, value_members}
+use Rattle.otel_otlp_protobuf.specs.Said.{Said, truth, integer, chosen_text, float, text, number, moment, flags}
+use Rattle.otel_otlp_protobuf.specs.Said.{trace_id, span_id, parent_id, message, messages, Members, no_members, member}
+use Rattle.otel_otlp_protobuf.specs.Said.{Items, no_items, item}
 use Rattle.otel_otlp_protobuf.specs.Said.{Member, Numbered, in_order, items_fields, items_of, members_fields, members_of}
 use Rattle.otel_otlp_protobuf.specs.Said.{message_fields, numbered_fields, put, said_fields}
 use Rattle.std.specs.Int.{to_be_bytes, w64}
 use Rattle.otel_protobuf.specs.Wire.{Field, FieldsFit, Wire, WireFits, fields_of, unless_empty, unless_zero}
 use Rattle.otel_protobuf.specs.Wire as wire
 
--- moments and flags are of 64 and 32 bits
+-- moments and flags are of 64 and 32 bits, and so are the bits of a float of 64
 abbrev mutual
   pub SaidFits : Said → Type 0
   SaidFits (truth b) = ⊤
   SaidFits (integer n) = ⊤
   SaidFits (chosen_text bs) = ⊤
+  SaidFits (float x) = to_bits binary64 x < 2 ^ 64
   SaidFits (text bs) = ⊤
   SaidFits (number n) = ⊤
   SaidFits (moment n) = n < 2 ^ 64
@@ -94,6 +100,7 @@ mutual
   said_fit n (truth b) h = (tt, tt)
   said_fit n (integer z) h = (tt, tt)
   said_fit n (chosen_text bs) h = (tt, tt)
+  said_fit n (float x) h = (h, tt)
   said_fit n (text bs) h = text_fits n bs
   said_fit n (number m) h = left_out_fits n (wire.varint m) (eqb m 0) tt
   said_fit n (moment m) h = left_out_fits n (wire.fixed64 m) (eqb m 0) h
@@ -129,31 +136,37 @@ each_always : {X : Type 0} (members : X → List Member) → ((x : X) → Fit (m
 each_always members fit [] = tt
 each_always members fit (x ∷ xs) = (fit x, each_always members fit xs)
 
-value_fits : (value : PlainValue) → Fit (value_members value)
-value_fits (boolean b) = (tt, tt)
-value_fits (plain.integer n) = (tt, tt)
-value_fits (plain.text bytes) = (tt, tt)
-value_fits (booleans truths) = ((each_always truth_members (λ b. (tt, tt)) truths, tt), tt)
-value_fits (integers numbers) = ((each_always integer_members (λ n. (tt, tt)) numbers, tt), tt)
-value_fits (texts many) = ((each_always text_members (λ bytes. (tt, tt)) many, tt), tt)
+bits_fit : (x : Float) → FloatFits x → to_bits binary64 x < 2 ^ 64
+bits_fit x h = omega (arith, to_bits-lt binary64 x (passes _ h))
 
-pair_fits : (pair : List ℕ × PlainValue) → Fit (pair_members pair)
-pair_fits pair = (tt, (value_fits pair.1, tt))
+value_fits : (value : PlainValue) → ValueFits value → Fit (value_members value)
+value_fits (boolean b) h = (tt, tt)
+value_fits (plain.integer n) h = (tt, tt)
+value_fits (plain.text bytes) h = (tt, tt)
+value_fits (booleans truths) h = ((each_always truth_members (λ b. (tt, tt)) truths, tt), tt)
+value_fits (integers numbers) h = ((each_always integer_members (λ n. (tt, tt)) numbers, tt), tt)
+value_fits (texts many) h = ((each_always text_members (λ bytes. (tt, tt)) many, tt), tt)
+value_fits (double x) h = (bits_fit x h, tt)
+value_fits (doubles xs) h = ((each_fits float_members FloatFits (λ x fits. (bits_fit x fits, tt)) xs h, tt), tt)
 
-attributes_fit : (attributes : List PlainKeyValue) → ItemsFit (items_of (map attribute_members attributes))
-attributes_fit = each_always attribute_members (λ attribute. pair_fits (attribute.key, attribute.value))
+pair_fits : (pair : List ℕ × PlainValue) → PairFits pair → Fit (pair_members pair)
+pair_fits pair h = (tt, (value_fits pair.1 h, tt))
+
+attributes_fit : (attributes : List PlainKeyValue) → AllByRecursion AttributeFits attributes
+    → ItemsFit (items_of (map attribute_members attributes))
+attributes_fit = each_fits attribute_members AttributeFits (λ a. pair_fits (a.key, a.value))
 
 flags_fit : (trace_flags : ℕ) (is_remote : Bool) → trace_flags < 2 ^ 8 → flags_of trace_flags is_remote < 2 ^ 32
 flags_fit trace_flags true h = omega arith
 flags_fit trace_flags false h = omega arith
 
 event_fits : (event : PlainEvent) → EventFits event → Fit (event_members event)
-event_fits event h = (h.timestamp, (tt, (attributes_fit event.attributes, (tt, tt))))
+event_fits event h = (h.timestamp, (tt, (attributes_fit event.attributes h.attributes, (tt, tt))))
 
 link_fits : (link : PlainLink) → LinkFits link → Fit (link_members link)
 link_fits link h =
     let fit = flags_fit link.span_context.trace_flags link.span_context.is_remote h.span_context.trace_flags in
-    (tt, (tt, (tt, (attributes_fit link.attributes, (tt, (fit, tt))))))
+    (tt, (tt, (tt, (attributes_fit link.attributes h.attributes, (tt, (fit, tt))))))
 
 span_fits : (span : PlainSpanData) → SpanFits span → Fit (span_members span)
 span_fits span h =
@@ -178,7 +191,7 @@ span_fits span h =
                     (
                       h.end_time,
                       (
-                        attributes_fit span.attributes,
+                        attributes_fit span.attributes h.attributes,
                         (
                           tt,
                           (
@@ -197,17 +210,20 @@ span_fits span h =
       ),
     )
 
-scope_fits : (scope : PlainScope) → Fit (scope_members scope)
-scope_fits scope = (tt, (tt, (attributes_fit scope.attributes, (tt, tt))))
+scope_fit : (scope : PlainScope) → AllByRecursion AttributeFits scope.attributes → Fit (scope_members scope)
+scope_fit scope h = (tt, (tt, (attributes_fit scope.attributes h, (tt, tt))))
 
 run_fits : (run : List PlainSpanData) → RunFits run → Fit (run_members run)
-run_fits run h = (scope_fits (run_scope run), (each_fits span_members SpanFits span_fits run h.fits, (tt, tt)))
+run_fits run h = (
+  scope_fit (run_scope run) (scope_fits run h),
+  (each_fits span_members SpanFits span_fits run h.fits, (tt, tt)),
+)
 
-resource_fits : (resource : PlainResource) → Fit (resource_members resource)
-resource_fits resource = (each_always pair_members pair_fits (entries resource.attributes), (tt, tt))
+resource_fits : (resource : PlainResource) → ResourceFits resource → Fit (resource_members resource)
+resource_fits resource h = (each_fits pair_members PairFits pair_fits (entries resource.attributes) h, (tt, tt))
 
-pub request_fits : (resource : PlainResource) (batch : List PlainSpanData) → AllByRecursion SpanFits batch
-    → FieldsFit (fields_of (message_fields (request_members resource batch)))
-request_fits resource batch h =
+pub request_fits : (resource : PlainResource) (batch : List PlainSpanData) → ResourceFits resource
+    → AllByRecursion SpanFits batch → FieldsFit (fields_of (message_fields (request_members resource batch)))
+request_fits resource batch fits h =
     let runs = each_fits run_members RunFits run_fits (scope_runs batch) (batch_runs_fit batch h) in
-    message_fits (request_members resource batch) (((resource_fits resource, (runs, (tt, tt))), tt), tt)
+    message_fits (request_members resource batch) (((resource_fits resource fits, (runs, (tt, tt))), tt), tt)

@@ -1,21 +1,26 @@
 -- Members of the same numbers, of which the fields are read alike, say the same.
 use Rattle.std.proofs.Common.{◌≡◌, ◌<◌, ◌≤◌, ◌^◌, ℕ, ℤ, Bool, true, false, cond, eqb, ltb, List, [], ◌∷◌, ◌++◌, map}
 use Rattle.std.proofs.Common.{⊎_elim, refl, sym, ap, ◌∙◌, arith}
-use Rattle.std.specs.Prelude.{◌&&◌, FitsSigned}
+use Rattle.std.specs.Prelude.{◌&&◌, FitsSigned, to_bits}
 use Rattle.std.proofs.lemmas.Bool.{eqb-true}
 use Rattle.std.proofs.lemmas.Int.{to_z-of_z}
+use Rattle.std.specs.Bool.{passes}
+use Rattle.std.specs.Float.{Float, binary64}
 use Rattle.std.specs.Fmt.{decimal}
 use Rattle.std.specs.Int.{cast_signed, cast_unsigned, to_be_bytes, w64, w128}
 use Rattle.std.specs.List.{AllByRecursion}
 use borrow.Author.Tests.{ltb-true}
+use lib.Ieee.{of_bits}
+use lib.Ieee.Bits.{of_bits-to_bits}
 use Rattle.json.specs.Json as json
 use Rattle.opentelemetry.specs.Hex.{hex_text}
 use Rattle.otel_otlp.proofs.Fitting.{all_joined}
+use Rattle.otel_otlp.specs.Fits.{FloatFits}
 use Rattle.otel_otlp.specs.OtlpSpan.{parent_text}
 use Rattle.otel_otlp_protobuf.proofs.IdBytes.{same_16_bytes, same_8_bytes}
 use Rattle.otel_otlp_protobuf.proofs.ReadAlike.{AreAbove, AreOf, Both, SameRaw, bytes_alike, maybe_alike, one_alike}
 use Rattle.otel_otlp_protobuf.proofs.ReadAlike.{same_messages, split, texts_alike}
-use Rattle.otel_otlp_protobuf.specs.Said.{Said, truth, integer, chosen_text, text, number, moment, flags, trace_id}
+use Rattle.otel_otlp_protobuf.specs.Said.{Said, truth, integer, chosen_text, float, text, number, moment, flags, trace_id}
 use Rattle.otel_otlp_protobuf.specs.Said.{span_id, parent_id, message, messages, Items, no_items, item, Member}
 use Rattle.otel_otlp_protobuf.specs.Said.{items_fields, items_json, items_of, members_json, members_of, message_fields}
 use Rattle.otel_otlp_protobuf.specs.Said.{object_json, said_fields, said_json, truth_number}
@@ -77,6 +82,7 @@ said_of : (n : ℕ) (said : Said) → AreOf n (said_fields n said)
 said_of n (truth b) = (refl, tt)
 said_of n (integer z) = (refl, tt)
 said_of n (chosen_text bs) = (refl, tt)
+said_of n (float x) = (refl, tt)
 said_of n (text bs) = text_of n bs
 said_of n (number m) = maybe_of n (wire.varint m) (eqb m 0)
 said_of n (moment m) = maybe_of n (wire.fixed64 m) (eqb m 0)
@@ -154,6 +160,9 @@ truth_by_number false false e = refl
 varints_alike : (m n : ℕ) → SameRaw (wire.varint m) (wire.varint n) → m ≡ n
 varints_alike m n h = cc (h.left, h.right)
 
+eights_alike : (m n : ℕ) → SameRaw (wire.fixed64 m) (wire.fixed64 n) → m ≡ n
+eights_alike m n h = cc (h.left, h.right)
+
 pub truth_tells : (n : ℕ) (a b : Bool) → Both (said_fields n (truth a)) (said_fields n (truth b)) → a ≡ b
 truth_tells n a b h =
     let same = one_alike n n (wire.varint (truth_number a)) (wire.varint (truth_number b)) h in
@@ -169,6 +178,15 @@ integer_tells n a b f g h =
 
 pub chosen_tells : (n : ℕ) (a b : List ℕ) → Both (said_fields n (chosen_text a)) (said_fields n (chosen_text b)) → a ≡ b
 chosen_tells n a b h = bytes_alike a b (one_alike n n (wire.bytes a) (wire.bytes b) h).1
+
+-- the bits are of one float
+pub float_tells : (n : ℕ) (a b : Float) → FloatFits a → FloatFits b
+    → Both (said_fields n (float a)) (said_fields n (float b)) → a ≡ b
+float_tells n a b f g h =
+    let same = (one_alike n n (wire.fixed64 (to_bits binary64 a)) (wire.fixed64 (to_bits binary64 b)) h).1 in
+    sym (of_bits-to_bits binary64 a (passes _ f))
+    ∙ ap (of_bits binary64) (eights_alike (to_bits binary64 a) (to_bits binary64 b) same)
+    ∙ of_bits-to_bits binary64 b (passes _ g)
 
 -- a text, and numbers that may be left out
 pub text_tells : (name : List ℕ) (n : ℕ) (a b : List ℕ) → Tells (row name n (text a) (text b))
@@ -186,7 +204,7 @@ number_tells name n a b h =
 
 pub moment_tells : (name : List ℕ) (n a b : ℕ) → Tells (row name n (moment a) (moment b))
 moment_tells name n a b h =
-    ap (λ m. json.string (decimal m)) (left_out_tells n wire.fixed64 a b (λ same. cc (same.left, same.right)) h)
+    ap (λ m. json.string (decimal m)) (left_out_tells n wire.fixed64 a b (eights_alike a b) h)
 
 pub flags_tell : (name : List ℕ) (n a b : ℕ) → Tells (row name n (flags a) (flags b))
 flags_tell name n a b h =

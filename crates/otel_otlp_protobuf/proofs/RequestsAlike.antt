@@ -284,9 +284,9 @@ module _ (these those : PlainResource) (fit : ResourceFits these) (others_fit : 
       let one = message_fields (request_members these a) in
       let other = message_fields (request_members those b) in
       let back : ReadsAs (request_bytes those b) (fields_of other) =
-      reads_message (fields_of other) (request_fits those b q) in
+      reads_message (fields_of other) (request_fits those b others_fit q) in
       sym (request_same these a)
       ∙ request_alike a b p q (same_bytes (request_bytes these a) one other
-      (reads_message (fields_of one) (request_fits these a p))
+      (reads_message (fields_of one) (request_fits these a fit p))
       (subst (λ (bs : List ℕ). ReadsAs bs (fields_of other)) (sym e) back))
       ∙ request_same those b

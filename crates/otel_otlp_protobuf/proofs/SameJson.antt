@@ -3,19 +3,20 @@ use Rattle.std.proofs.Common.{◌≡◌, ℕ, List, [], ◌∷◌, ap, codes, re
 use Rattle.std.specs.FinMap.{entries}
 use Rattle.json.specs.Json as json
 use Rattle.opentelemetry.specs.Plain.{PlainEvent, PlainKeyValue, PlainLink, PlainScope}
-use Rattle.opentelemetry.specs.Plain.{PlainValue, boolean, integer, text, booleans, integers, texts}
+use Rattle.opentelemetry.specs.Plain.{PlainValue, boolean, integer, text, booleans, integers, texts, double, doubles}
 use Rattle.otel_resource.specs.Resource.{PlainResource}
 use Rattle.otel_export.specs.PlainSpanData.{PlainSpanData}
 use Rattle.otel_otlp.specs.Fields as fields
 use Rattle.otel_otlp.specs.Otlp.{request, resource_json, resource_spans_json, run_json, scope_json}
 use Rattle.otel_otlp.specs.OtlpSpan.{event_json, link_json, span_json}
-use Rattle.otel_otlp.specs.OtlpValues.{attribute_json, bool_json, integer_json, pair_json, text_json, value_json}
+use Rattle.otel_otlp.specs.OtlpValues.{attribute_json, bool_json, double_json, integer_json, pair_json, text_json}
+use Rattle.otel_otlp.specs.OtlpValues.{value_json}
 use Rattle.otel_otlp.specs.ScopeRuns.{run_scope, scope_runs}
 use Rattle.otel_otlp_protobuf.specs.NamedRequest.{request_members, resource_members, resource_spans_members, run_members}
 use Rattle.otel_otlp_protobuf.specs.NamedRequest.{scope_members}
 use Rattle.otel_otlp_protobuf.specs.NamedSpan.{event_members, link_members, span_members}
-use Rattle.otel_otlp_protobuf.specs.NamedValues.{attribute_members, integer_members, pair_members, text_members}
-use Rattle.otel_otlp_protobuf.specs.NamedValues.{truth_members, value_members}
+use Rattle.otel_otlp_protobuf.specs.NamedValues.{attribute_members, float_members, integer_members, pair_members}
+use Rattle.otel_otlp_protobuf.specs.NamedValues.{text_members, truth_members, value_members}
 use Rattle.otel_otlp_protobuf.specs.Said.{Member, items_json, items_of, object_json}
 
 -- lists of messages, where each of them is so
@@ -34,6 +35,8 @@ value_same (text bytes) = refl
 value_same (booleans truths) = rw (items_same truth_members bool_json (λ truth. refl) truths) refl
 value_same (integers numbers) = rw (items_same integer_members integer_json (λ number. refl) numbers) refl
 value_same (texts many) = rw (items_same text_members text_json (λ bytes. refl) many) refl
+value_same (double x) = refl
+value_same (doubles xs) = rw (items_same float_members double_json (λ x. refl) xs) refl
 
 pair_same : (pair : List ℕ × PlainValue) → object_json (pair_members pair) ≡ pair_json pair
 pair_same pair = ap (λ j. json.object (json.member (codes "key") (json.string pair.0) (json.member (codes "value") j json.no_members))) (value_same pair.1)

@@ -1,17 +1,19 @@
 -- Values and attributes of which the fields are read alike say the same.
 use Rattle.std.proofs.Common.{◌≡◌, ℕ, ℤ, Bool, List, [], ◌∷◌, codes, map, refl, ap, subst, arith}
+use Rattle.std.specs.Float.{Float, binary64}
 use Rattle.std.specs.Int.{cast_unsigned, w64}
 use Rattle.std.specs.List.{AllByRecursion}
-use Rattle.std.specs.Prelude.{FitsSigned, ⊤}
+use Rattle.std.specs.Prelude.{FitsSigned, to_bits, ⊤}
 use Rattle.json.specs.Json as json
-use Rattle.opentelemetry.specs.Plain.{PlainKeyValue, PlainValue, boolean, booleans, integers, texts}
+use Rattle.opentelemetry.specs.Plain.{PlainKeyValue, PlainValue, boolean, booleans, integers, texts, double, doubles}
 use Rattle.opentelemetry.specs.Plain as plain
 use Rattle.otel_otlp.proofs.ValuesAlike.{anything}
-use Rattle.otel_otlp.specs.Fits.{AttributeFits, PairFits, ValueFits}
-use Rattle.otel_otlp_protobuf.proofs.MembersAlike.{Alike, Row, Tells, chosen_tells, in_order_alike, integer_tells}
-use Rattle.otel_otlp_protobuf.proofs.MembersAlike.{many_tell, message_tells, row, text_tells, truth_tells}
+use Rattle.otel_otlp.specs.Fits.{AttributeFits, FloatFits, PairFits, ValueFits}
+use Rattle.otel_otlp_protobuf.proofs.MembersAlike.{Alike, Row, Tells, chosen_tells, float_tells, in_order_alike}
+use Rattle.otel_otlp_protobuf.proofs.MembersAlike.{integer_tells, many_tell, message_tells, row, text_tells, truth_tells}
 use Rattle.otel_otlp_protobuf.proofs.ReadAlike.{Both, one_alike}
-use Rattle.otel_otlp_protobuf.specs.NamedValues.{array_items, array_members, attribute_members, integer_members}
+use Rattle.otel_otlp_protobuf.specs.NamedValues.{array_items, array_members, attribute_members, float_members}
+use Rattle.otel_otlp_protobuf.specs.NamedValues.{integer_members}
 use Rattle.otel_otlp_protobuf.specs.NamedValues.{list_members, many, pair_members, text_members, truth_members, value_members}
 use Rattle.otel_otlp_protobuf.specs.Said.{Member, items_of, members_of, message, message_fields, messages, object_json}
 use Rattle.otel_otlp_protobuf.specs.Said.{text, truth_number}
@@ -26,6 +28,8 @@ value_number (plain.text bs) = 1
 value_number (booleans bs) = 5
 value_number (integers zs) = 5
 value_number (texts ts) = 5
+value_number (double x) = 4
+value_number (doubles xs) = 5
 
 abbrev list_wire : PlainValue → Wire
 list_wire value = wire.message (fields_of (message_fields (array_members value)))
@@ -37,6 +41,8 @@ value_wire (plain.text bs) = wire.bytes bs
 value_wire (booleans bs) = list_wire (booleans bs)
 value_wire (integers zs) = list_wire (integers zs)
 value_wire (texts ts) = list_wire (texts ts)
+value_wire (double x) = wire.fixed64 (to_bits binary64 x)
+value_wire (doubles xs) = list_wire (doubles xs)
 
 value_field : (v : PlainValue) → message_fields (value_members v) ≡ one (value_number v) (value_wire v)
 value_field (boolean b) = refl
@@ -45,6 +51,8 @@ value_field (plain.text bs) = refl
 value_field (booleans bs) = refl
 value_field (integers zs) = refl
 value_field (texts ts) = refl
+value_field (double x) = refl
+value_field (doubles xs) = refl
 
 -- so values of the same bytes are of one kind
 same_number : (v w : PlainValue) → Both (message_fields (value_members v)) (message_fields (value_members w))
@@ -62,6 +70,9 @@ integers_alike a b p q h = ap (λ z. object_json (integer_members z)) (integer_t
 
 texts_alike : (a b : List ℕ) → ⊤ → ⊤ → Alike (text_members a) (text_members b)
 texts_alike a b p q h = ap (λ bs. object_json (text_members bs)) (chosen_tells 1 a b h)
+
+floats_alike : (a b : Float) → FloatFits a → FloatFits b → Alike (float_members a) (float_members b)
+floats_alike a b p q h = ap (λ x. object_json (float_members x)) (float_tells 4 a b p q h)
 
 -- lists
 lists_alike : (v w : PlainValue)
@@ -100,6 +111,9 @@ value_alike (integers a) (integers b) p q h =
 value_alike (texts a) (texts b) p q h =
     lists_alike (texts a) (texts b)
     (values_tell text_members (λ x. ⊤) texts_alike a b (anything a) (anything b)) h
+value_alike (double a) (double b) p q h = floats_alike a b p q h
+value_alike (doubles a) (doubles b) p q h =
+    lists_alike (doubles a) (doubles b) (values_tell float_members FloatFits floats_alike a b p q) h
 value_alike (booleans a) (integers b) p q h =
     lists_alike (booleans a) (integers b) (two_kinds_tell (λ x. boolean x) (λ y. plain.integer y) (λ x y e. omega arith) a b) h
 value_alike (booleans a) (texts b) p q h =
@@ -112,6 +126,18 @@ value_alike (texts a) (booleans b) p q h =
     lists_alike (texts a) (booleans b) (two_kinds_tell (λ x. plain.text x) (λ y. boolean y) (λ x y e. omega arith) a b) h
 value_alike (texts a) (integers b) p q h =
     lists_alike (texts a) (integers b) (two_kinds_tell (λ x. plain.text x) (λ y. plain.integer y) (λ x y e. omega arith) a b) h
+value_alike (booleans a) (doubles b) p q h =
+    lists_alike (booleans a) (doubles b) (two_kinds_tell (λ x. boolean x) (λ y. double y) (λ x y e. omega arith) a b) h
+value_alike (doubles a) (booleans b) p q h =
+    lists_alike (doubles a) (booleans b) (two_kinds_tell (λ x. double x) (λ y. boolean y) (λ x y e. omega arith) a b) h
+value_alike (integers a) (doubles b) p q h =
+    lists_alike (integers a) (doubles b) (two_kinds_tell (λ x. plain.integer x) (λ y. double y) (λ x y e. omega arith) a b) h
+value_alike (doubles a) (integers b) p q h =
+    lists_alike (doubles a) (integers b) (two_kinds_tell (λ x. double x) (λ y. plain.integer y) (λ x y e. omega arith) a b) h
+value_alike (texts a) (doubles b) p q h =
+    lists_alike (texts a) (doubles b) (two_kinds_tell (λ x. plain.text x) (λ y. double y) (λ x y e. omega arith) a b) h
+value_alike (doubles a) (texts b) p q h =
+    lists_alike (doubles a) (texts b) (two_kinds_tell (λ x. double x) (λ y. plain.text y) (λ x y e. omega arith) a b) h
 value_alike v w p q h = absurd (omega (arith, same_number v w h))
 
 -- keys and values

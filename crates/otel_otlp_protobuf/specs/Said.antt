@@ -1,6 +1,7 @@
 -- What a message of the OpenTelemetry protocol says, apart from how it is written: members, each with its name in JSON and
 -- its number on protobuf's wire. JSON and bytes are both printed from it.
-use Rattle.std.specs.Prelude.{ℕ, ℤ, ◌==◌, Bool, List, [], ◌∷◌, nat_le, if◌then◌else◌}
+use Rattle.std.specs.Prelude.{ℕ, ℤ, ◌==◌, Bool, List, [], ◌∷◌, nat_le, if◌then◌else◌, to_bits}
+use Rattle.std.specs.Float.{Float, binary64}
 use Rattle.std.specs.Fmt.{decimal, signed_decimal}
 use Rattle.std.specs.Int.{cast_unsigned, to_be_bytes, w64, w128}
 use Rattle.std.specs.List.{flat_map}
@@ -8,6 +9,7 @@ use Rattle.json.specs.Json.{Json}
 use Rattle.json.specs.Json as json
 use Rattle.opentelemetry.specs.Hex.{hex_text}
 use Rattle.otel_otlp.specs.OtlpSpan.{parent_text}
+use Rattle.otel_otlp.specs.OtlpValues.{float_json}
 use Rattle.otel_protobuf.specs.Wire.{Field, fields_of, one, unless_empty, unless_zero}
 use Rattle.otel_protobuf.specs.Wire as wire
 
@@ -15,10 +17,11 @@ mutual
   -- What a member says. Each is left out on the wire where it has its default, but for what is one of several choices
   -- and for messages
   pub data Said : Type 0 where
-    -- one of several choices: a truth, an integer of 64 bits, a text
+    -- one of several choices: a truth, an integer of 64 bits, a text, a float
     truth : Bool → Said
     integer : ℤ → Said
     chosen_text : List ℕ → Said
+    float : Float → Said
     -- a text, a number, a moment, and flags
     text : List ℕ → Said
     number : ℕ → Said
@@ -58,6 +61,7 @@ abbrev mutual
   said_json (truth b) = json.boolean b
   said_json (integer n) = json.string (signed_decimal n)
   said_json (chosen_text bs) = json.string bs
+  said_json (float x) = float_json x
   said_json (text bs) = json.string bs
   said_json (number n) = json.number (decimal n)
   said_json (moment n) = json.string (decimal n)
@@ -96,12 +100,13 @@ in_order (m ∷ ms) = put m (in_order ms)
 abbrev pub numbered_fields : List Numbered → List Field
 numbered_fields ms = flat_map (λ m. m.1) (in_order ms)
 
--- on the wire, members stand by their numbers, and defaults are left out
+-- on the wire, members stand by their numbers, and defaults are left out; a float stands as its bits
 abbrev mutual
   pub said_fields : ℕ → Said → List Field
   said_fields n (truth b) = one n (wire.varint (truth_number b))
   said_fields n (integer z) = one n (wire.varint (cast_unsigned w64 z))
   said_fields n (chosen_text bs) = one n (wire.bytes bs)
+  said_fields n (float x) = one n (wire.fixed64 (to_bits binary64 x))
   said_fields n (text bs) = unless_empty n bs
   said_fields n (number m) = unless_zero n wire.varint m
   said_fields n (moment m) = unless_zero n wire.fixed64 m

@@ -13,7 +13,7 @@ ghost use Rattle.otel_protobuf.specs.Reading.{ReadsAs};
 ghost use Rattle.otel_protobuf.specs.Wire.{fields_of};
 
 use otel_export::trace::SpanData;
-use otel_otlp::fits::batch_fits;
+use otel_otlp::fits::{batch_fits, resource_fits};
 use otel_otlp::laws::json_loses_nothing;
 use otel_resource::resource::Resource;
 
@@ -29,6 +29,7 @@ pub fn requests_read_back(resource: &Resource, batch: &[SpanData])
     ensures { ReadsAs (request_bytes resource.now batch.now)
         (fields_of (message_fields (request_members resource.now batch.now))) }
 {
+    resource_fits(resource);
     batch_fits(batch);
 }
 

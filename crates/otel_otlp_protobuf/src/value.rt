@@ -2,16 +2,17 @@
 
 ghost use Rattle.std.specs.Prelude.{string_bytes};
 ghost use Rattle.opentelemetry.specs.PlainValues.{plain_array, plain_value};
-ghost use Rattle.otel_otlp_protobuf.specs.NamedValues.{array_members, attribute_members, integer_members, pair_members};
-ghost use Rattle.otel_otlp_protobuf.specs.NamedValues.{text_members, truth_members, value_members};
+ghost use Rattle.otel_otlp_protobuf.specs.NamedValues.{array_members, attribute_members, float_members, integer_members};
+ghost use Rattle.otel_otlp_protobuf.specs.NamedValues.{pair_members, text_members, truth_members, value_members};
 ghost use Rattle.otel_otlp_protobuf.specs.Said.{message_fields};
 
 use crate::message::{Message, nested, repeated};
 use opentelemetry::{Array, Key, KeyValue, Value};
 use otel_protobuf::Sink;
 use std::alloc::Global;
+use std::num::f64_to_bits_with_nan;
 
-// A truth, an integer and a text as an `AnyValue` each.
+// A truth, an integer, a text and a float as an `AnyValue` each.
 impl Message for bool {
     ghost fields = { λ truth. message_fields (truth_members truth) };
 
@@ -36,6 +37,14 @@ impl Message for String {
     }
 }
 
+impl Message for f64 {
+    ghost fields = { λ number. message_fields (float_members number) };
+
+    fn write(&self, _alloc: Global, sink: &mut Sink) {
+        sink.fixed64_field(4, f64_to_bits_with_nan(*self));
+    }
+}
+
 // An `ArrayValue`.
 impl Message for Array {
     ghost fields = { λ array. message_fields (array_members (plain_array array)) };
@@ -45,6 +54,7 @@ impl Message for Array {
             Array::Bool(truths) => repeated(sink, alloc, 1, truths),
             Array::I64(numbers) => repeated(sink, alloc, 1, numbers),
             Array::String(texts) => repeated(sink, alloc, 1, texts),
+            Array::F64(numbers) => repeated(sink, alloc, 1, numbers),
         }
     }
 }
@@ -59,6 +69,7 @@ impl Message for Value {
             Value::I64(number) => number.write(alloc, sink),
             Value::String(text) => sink.bytes_field(1, text.as_bytes()),
             Value::Array(array) => nested(sink, alloc, 5, array),
+            Value::F64(number) => number.write(alloc, sink),
         }
     }
 }

@@ -8,4 +8,4 @@ use Rattle.otel_otlp_protobuf.proofs.laws.requests_read_back.Goals as goal
 pub returns : goal.returns
 returns c =
     reads_message (fields_of (message_fields (request_members c.args.resource.now c.args.batch.now)))
-    (request_fits c.args.resource.now c.args.batch.now c.batch_fits.ensures)
+    (request_fits c.args.resource.now c.args.batch.now c.resource_fits.ensures c.batch_fits.ensures)
