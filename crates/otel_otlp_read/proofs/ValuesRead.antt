@@ -1,25 +1,33 @@
 -- Values and attributes that are written are read back as their texts.
 use Rattle.std.proofs.Common.{◌≡◌, ℕ, ℤ, suc, Bool, true, false, cond, List, [], ◌∷◌, ◌++◌, map, codes}
-use Rattle.std.proofs.Common.{Some, None, Result, Ok, FitsSigned, refl, sym, ap, ◌∙◌, flat_map, append-nil}
+use Rattle.std.proofs.Common.{Some, None, Option, Result, Ok, FitsSigned, refl, sym, ap, ◌∙◌, flat_map, append-nil}
+use Rattle.std.proofs.Common.{option_map}
 use Rattle.std.proofs.lemmas.List.Concat.{flat_map-cons}
+use Rattle.std.specs.Bool.{passes}
+use Rattle.std.specs.Float.Ieee.{Float, binary64, nan, inf, fin}
 use Rattle.std.specs.Fmt.{signed_decimal}
 use Rattle.std.specs.Int.{w64}
 use Rattle.std.specs.List.{AllByRecursion, join_with_byte}
+use Rattle.fast_float.specs.Parse.{parse_float, read_float}
+use Rattle.fast_float.specs.Text.{scan}
 use Rattle.json.specs.Json.{Json}
 use Rattle.json.specs.Json as json
 use Rattle.opentelemetry.specs.Plain.{PlainKeyValue, PlainValue, boolean, integer, text, booleans, integers, texts}
+use Rattle.opentelemetry.specs.Plain.{double, doubles}
 use Rattle.opentelemetry.specs.ValueText.{list_text, quoted_text, truth_text, value_text}
+use Rattle.otel_float.proofs.Texts.{reads}
+use Rattle.otel_float.specs.FloatText.{float_text}
 use Rattle.otel_otlp.specs.Fields.{items_of}
-use Rattle.otel_otlp.specs.Fits.{AttributeFits, ValueFits}
-use Rattle.otel_otlp.specs.OtlpValues.{array_items, array_json, attribute_json, bool_json, integer_json, pair_json}
-use Rattle.otel_otlp.specs.OtlpValues.{text_json, value_json}
+use Rattle.otel_otlp.specs.Fits.{AttributeFits, FloatFits, ValueFits}
+use Rattle.otel_otlp.specs.OtlpValues.{array_items, array_json, attribute_json, bool_json, double_json, float_json}
+use Rattle.otel_otlp.specs.OtlpValues.{integer_json, pair_json, text_json, value_json}
 use Rattle.otel_shown.specs.Shown as shown
 use Rattle.otel_otlp_read.specs.declared.fault.Fault.{Fault}
 use Rattle.otel_otlp_read.specs.declared.fault.Fault.TheVariants as faults
 use Rattle.otel_otlp_read.specs.Reading.{◌>>=◌, joined, needed}
 use Rattle.otel_otlp_read.specs.Members.{listed, or_default, unless_null}
-use Rattle.otel_otlp_read.specs.AnyValue.{after_comma, comma_joined, kind_count, shown_item, shown_list, shown_pair}
-use Rattle.otel_otlp_read.specs.AnyValue.{shown_scalar, shown_value, shown_with}
+use Rattle.otel_otlp_read.specs.AnyValue.{after_comma, comma_joined, double_of, kind_count, shown_item, shown_list}
+use Rattle.otel_otlp_read.specs.AnyValue.{shown_pair, shown_scalar, shown_value, shown_with}
 use Rattle.otel_otlp_read.specs.SpanParts.{attribute_line}
 use Rattle.otel_otlp_read.proofs.DigitsRead.{signed_integer}
 
@@ -73,6 +81,25 @@ text_back : (depth : ℕ) (is_quoted : Bool) (bytes : List ℕ)
 unfolding shown_value shown_with shown_scalar kind_count
 text_back depth is_quoted bytes = refl
 
+-- a float is read back as itself, and shown by its text
+float_read : (x : Float) → FloatFits x → double_of (float_json x) ≡ Some x
+unfolding read_float scan
+float_read nan h = refl
+float_read (inf true) h = refl
+float_read (inf false) h = refl
+float_read (fin s m e) h = (reads (fin s m e) (passes _ h)).parses
+
+abbrev shown_found : Option Float → Result (List ℕ) Fault
+shown_found found = needed faults.DoubleForm (option_map float_text found)
+
+float_back : (depth : ℕ) (is_quoted : Bool) (x : Float) → FloatFits x
+    → shown_value (suc depth) is_quoted (double_json x) ≡ Ok (float_text x)
+unfolding shown_value shown_with shown_scalar kind_count
+float_back depth is_quoted nan h = ap shown_found (float_read nan h)
+float_back depth is_quoted (inf true) h = ap shown_found (float_read (inf true) h)
+float_back depth is_quoted (inf false) h = ap shown_found (float_read (inf false) h)
+float_back depth is_quoted (fin s m e) h = ap shown_found (float_read (fin s m e) h)
+
 -- a list of values that are each read back
 list_back : {X : Type 0} (depth : ℕ) (is_quoted : Bool) (written : X → Json) (out : X → List ℕ) (P : X → Type 0)
     → ((x : X) → P x → shown_value (suc depth) true (written x) ≡ Ok (out x)) → (xs : List X) → AllByRecursion P xs
@@ -111,6 +138,10 @@ value_back depth (integers numbers) h =
 value_back depth (texts many) h =
     array_back depth false (texts many)
     ∙ list_back depth false text_json quoted_text (λ t. Unit {0}) (λ t k. text_back depth true t) many (always many)
+value_back depth (double x) h = float_back (suc depth) false x h
+value_back depth (doubles xs) h =
+    array_back depth false (doubles xs)
+    ∙ list_back depth false double_json float_text FloatFits (float_back depth true) xs h
 
 -- a value is there
 pub value_given : (value : PlainValue) → unless_null (value_json value) ≡ Some (value_json value)
@@ -120,6 +151,8 @@ value_given (text bytes) = refl
 value_given (booleans truths) = refl
 value_given (integers numbers) = refl
 value_given (texts many) = refl
+value_given (double x) = refl
+value_given (doubles xs) = refl
 
 -- what is read of it in its place
 pub member_back : (value : PlainValue) → ValueFits value

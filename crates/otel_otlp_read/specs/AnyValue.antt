@@ -1,12 +1,16 @@
--- The text of an `AnyValue`: of a text itself, within a list between double quotes; `true` and `false`; the digits of a
--- number; the base 64 of bytes; a list as `[a,b]`, keys and values as `{k=v,l=w}`; nothing of a value without a kind.
+-- The text of an `AnyValue`: of a text itself, within a list between double quotes; `true` and `false`; the digits of an
+-- integer as they stand; the text of the float that a number is read as; the base 64 of bytes; a list as `[a,b]`, keys
+-- and values as `{k=v,l=w}`; nothing of a value without a kind.
 use Rattle.std.specs.Prelude.{ℕ, zero, suc, ◌+◌, ◌||◌, Bool, true, false, List, [], ◌∷◌, ◌++◌, codes, Option, Some, None}
-use Rattle.std.specs.Prelude.{Result, Ok, Err, option_and_then, if◌then◌else◌, nat_lt}
+use Rattle.std.specs.Prelude.{Result, Ok, Err, option_and_then, option_map, if◌then◌else◌, nat_lt}
+use Rattle.std.specs.Float.{Float, binary64}
 use Rattle.std.specs.Str.{bytes_eq}
+use Rattle.fast_float.specs.Parse.{parse_float}
 use Rattle.json.specs.Json.{Json, null, boolean, number, string, array, object}
 use Rattle.json.specs.Find.{as_bool, as_str}
 use Rattle.json.specs.Word.{after_number}
 use Rattle.opentelemetry.specs.ValueText.{quoted_text, truth_text}
+use Rattle.otel_float.specs.FloatText.{float_text}
 use Rattle.otel_otlp_read.specs.declared.fault.Fault.{Fault}
 use Rattle.otel_otlp_read.specs.declared.fault.Fault.TheVariants as faults
 use Rattle.otel_otlp_read.specs.Reading.{◌>>=◌, joined, needed}
@@ -64,17 +68,17 @@ is_read (Some (b ∷ bs)) = false
 abbrev pub is_number : List ℕ → Bool
 is_number text = is_read (after_number text)
 
--- a number as it stands, in a string or not, or one of the words
-abbrev pub double_text : Json → Option (List ℕ)
-double_text null = None
-double_text (boolean _) = None
-double_text (number text) = Some text
-double_text (string text) = if is_float_word text || is_number text then Some text else None
-double_text (array _) = None
-double_text (object _) = None
+-- the float nearest to a number, in a string or not, or that of one of the words
+abbrev pub double_of : Json → Option Float
+double_of null = None
+double_of (boolean _) = None
+double_of (number text) = parse_float binary64 text
+double_of (string text) = if is_float_word text || is_number text then parse_float binary64 text else None
+double_of (array _) = None
+double_of (object _) = None
 
 abbrev pub shown_double : Json → Result (List ℕ) Fault
-shown_double v = needed faults.DoubleForm (double_text v)
+shown_double v = needed faults.DoubleForm (option_map float_text (double_of v))
 
 abbrev pub shown_bytes : Json → Result (List ℕ) Fault
 shown_bytes v = needed faults.BytesForm (as_str v)

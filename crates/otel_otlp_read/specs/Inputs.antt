@@ -77,6 +77,10 @@ left_faults line read = map (left_fault line) read.left_out
 abbrev pub resource_faults : ℕ → PlainReadResource → List LineFault
 resource_faults line read = map (left_fault line) read.left_out ++ flat_map (left_faults line) read.spans
 
+-- and out of resources
+abbrev pub document_faults : ℕ → List PlainReadResource → List LineFault
+document_faults line reads = flat_map (resource_faults line) reads
+
 -- the spans of a resource
 abbrev pub resource_shown : PlainReadResource → List PlainShownSpan
 resource_shown read = map (λ span. span.span) read.spans
@@ -89,7 +93,7 @@ one_if_spanless reads = one_if_none (flat_map resource_shown reads)
 abbrev pub of_document : ℕ → Result (List PlainReadResource) Fault → PlainReadText
 of_document line (Ok reads) = record {
   spans = flat_map resource_shown reads;
-  faults = flat_map (resource_faults line) reads;
+  faults = document_faults line reads;
   spanless = one_if_spanless reads;
 }
 of_document line (Err fault) = record {

@@ -2,9 +2,9 @@
 
 ghost use Rattle.std.specs.Prelude.{◌≡◌, ◌+◌, ◌++◌, ◌^◌, ◌<◌, ◌≤◌, IfOk, OnOk, map};
 ghost use Rattle.std.specs.List.{flat_map};
-ghost use Rattle.otel_otlp_read.specs.Inputs.{begins_with_json, is_json, left_fault, left_faults, of_document};
-ghost use Rattle.otel_otlp_read.specs.Inputs.{read_document, read_input, read_lines, resource_faults, resource_shown};
-ghost use Rattle.otel_otlp_read.specs.Inputs.{one_if_spanless, text_lines};
+ghost use Rattle.otel_otlp_read.specs.Inputs.{begins_with_json, document_faults, is_json, left_fault, left_faults};
+ghost use Rattle.otel_otlp_read.specs.Inputs.{of_document, one_if_spanless, read_document, read_input, read_lines};
+ghost use Rattle.otel_otlp_read.specs.Inputs.{resource_faults, resource_shown, text_lines};
 
 use crate::document::read_document;
 use crate::fault::{Fault, ReadError};
@@ -91,7 +91,7 @@ fn push_resources(
     reads: Vec<ReadResource>,
 ) -> Result<(), AllocError>
     ensures spans { OnOk result (spans.new.items ≡ spans.old.items ++ flat_map resource_shown reads.items) }
-    ensures faults { OnOk result (faults.new.items ≡ faults.old.items ++ flat_map (resource_faults line) reads.items) }
+    ensures faults { OnOk result (faults.new.items ≡ faults.old.items ++ document_faults line reads.items) }
 {
     for read in reads {
         push_resource(spans, faults, line, read)?;

@@ -1,8 +1,10 @@
 //! The text of a value of the protocol, `AnyValue`, in the form in which a value of this repository displays itself.
 
 ghost use Rattle.std.specs.Prelude.{◌≡◌, ◌≤◌, false, map, option_and_then, option_map, string_bytes, true};
+ghost use Rattle.std.specs.Float.{binary64};
+ghost use Rattle.fast_float.specs.Parse.{parse_float};
 ghost use Rattle.json.specs.Value.{value_view};
-ghost use Rattle.otel_otlp_read.specs.AnyValue.{after_comma, closing, comma_joined, double_text, integer_text, kind_count};
+ghost use Rattle.otel_otlp_read.specs.AnyValue.{after_comma, closing, comma_joined, double_of, integer_text, kind_count};
 ghost use Rattle.otel_otlp_read.specs.AnyValue.{is_float_word, is_number, one_if, one_kind, opening, shown_integer, shown_item};
 ghost use Rattle.otel_otlp_read.specs.AnyValue.{shown_double, shown_list, shown_pair, shown_scalar, shown_string, shown_truth};
 ghost use Rattle.otel_otlp_read.specs.AnyValue.{shown_bytes, shown_value, shown_with};
@@ -14,6 +16,7 @@ use crate::fault::{Fault, ReadError};
 use crate::member::{given, list, object, text};
 use crate::number::{is_integer, number_text};
 use json::Value;
+use otel_float::FloatText;
 
 /// How deep lists of values may nest, the value itself counted: less deep than JSON may.
 pub(crate) const VALUE_DEPTH: usize = 64;
@@ -115,15 +118,22 @@ fn is_number(text: &str) -> bool
     json::is_number(text)
 }
 
-/// The text of a number as it stands, in a string or not, or one of the words.
-fn double_text<'a>(value: &Value<'a>) -> Option<&'a str>
-    ensures { option_map (λ t. t.now) result ≡ double_text (value_view value.now) }
+/// The float that is nearest to what a text writes.
+fn nearest(text: &str) -> Option<f64>
+    ensures { result ≡ parse_float binary64 text.now }
+{
+    fast_float::parse(text).ok()
+}
+
+/// The float nearest to a number, in a string or not, or that of one of the words.
+fn double_of(value: &Value) -> Option<f64>
+    ensures { result ≡ double_of (value_view value.now) }
 {
     match value {
-        Value::Number(text) => Some(*text),
+        Value::Number(text) => nearest(text),
         Value::String(text) => {
             if is_float_word(text) || is_number(text) {
-                Some(*text)
+                nearest(text)
             } else {
                 None
             }
@@ -144,13 +154,13 @@ fn push_integer(out: &mut String, value: &Value) -> Result<(), ReadError>
     Ok(())
 }
 
-/// Appends the text of a number that is no integer.
+/// Appends the text of a float.
 fn push_double(out: &mut String, value: &Value) -> Result<(), ReadError>
     ensures { Gives (λ _. string_bytes out.new) result
         (grown (string_bytes out.old) (shown_double (value_view value.now))) }
 {
-    match double_text(value) {
-        Some(text) => out.push_str(text)?,
+    match double_of(value) {
+        Some(number) => out.push_str(FloatText::new(number).as_str())?,
         None => return Err(ReadError::Fault(Fault::DoubleForm)),
     }
     Ok(())
