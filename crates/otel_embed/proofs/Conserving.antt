@@ -17,7 +17,7 @@ use Rattle.otel_pipeline.specs.SpanHistory.{span_of}
 use Rattle.otel_pipeline.specs.StartRequest.{StartRequest}
 use Rattle.otel_pipeline.specs.Starting.{OnlyDraws}
 use Rattle.otel_pipeline.proofs.EndLemmas.{ends_followed}
-use Rattle.otel_pipeline.proofs.FirstKeeps.{AddsToFirst, adds_nothing, delivers_grow, flush_grows, run_grows, shutdown_grows, started_loses, taken_all, taken_told}
+use Rattle.otel_pipeline.proofs.FirstKeeps.{AddsToFirst, adds_nothing, delivers_grow, flush_grows, run_grows, shutdown_grows, started_stores, stored_adds, taken_all, taken_told}
 use Rattle.otel_pipeline.proofs.Following.{EachFollows-append, EachFollows-asked, EachFollows-same}
 use Rattle.otel_pipeline.proofs.Starting.{answers_told, refused_draws}
 use Rattle.otel_otlp.specs.Otlp.{otlp_line, otlp_lines}
@@ -101,7 +101,7 @@ module _ {P S G : Type 0} (calls : Calls P S G) where
     start_carries request old new (inl (history, starts)) lines resource = adds_carry [] old new
         (EachFollows-same calls.processor old.provider.processors new.provider.processors
         (answers_told calls.processor calls.sampler calls.ids old.provider new.provider request (Ok (span_of history)) (history, refl, starts)))
-        (started_loses calls law (old.provider.is_shut || request.cx.telemetry_suppressed) old.provider new.provider request history starts).0
+        (stored_adds calls.keeps old.provider.processors new.provider.processors (started_stores calls law (old.provider.is_shut || request.cx.telemetry_suppressed) old.provider new.provider request history starts))
         lines resource
     start_carries request old new (inr refuses) lines resource = rests_carry old new (refused_same old.provider new.provider request refuses) lines resource
 

@@ -24,27 +24,31 @@ use Rattle.otel_pipeline.specs.declared.trace.keeps_batches.KeepsBatches as keep
 abbrev pub AddsToFirst : {P : Type 0} → keeping.Ghosts P → List P → List P → Type 0
 AddsToFirst keeps old new = OnlyAdds (stored_of_first keeps old) (stored_of_first keeps new)
 
--- and none was lost
-abbrev pub LosesNothing : {P : Type 0} → keeping.Ghosts P → List P → List P → Type 0
-LosesNothing keeps old new = AddsToFirst keeps old new × (losses_of_first keeps new ≡ losses_of_first keeps old)
+-- none was stored, and none was lost
+abbrev pub StoresNothing : {P : Type 0} → keeping.Ghosts P → List P → List P → Type 0
+StoresNothing keeps old new = stored_of_first keeps new ≡ stored_of_first keeps old
+
+-- where none was stored, none was taken back
+pub stored_adds : {P : Type 0} (keeps : keeping.Ghosts P) (old new : List P) → StoresNothing keeps old new → AddsToFirst keeps old new
+stored_adds keeps old new = adds_none (stored_of_first keeps old) (stored_of_first keeps new)
 
 pub adds_nothing : {P : Type 0} (keeps : keeping.Ghosts P) (old new : List P) → new ≡ old → AddsToFirst keeps old new
-adds_nothing keeps old new e = adds_none (stored_of_first keeps old) (stored_of_first keeps new) (ap (stored_of_first keeps) e)
+adds_nothing keeps old new e = stored_adds keeps old new (ap (stored_of_first keeps) e)
 
-pub loses_nothing : {P : Type 0} (keeps : keeping.Ghosts P) (old new : List P) → new ≡ old → LosesNothing keeps old new
-loses_nothing keeps old new e = (adds_nothing keeps old new e, ap (losses_of_first keeps) e)
+pub stores_nothing : {P : Type 0} (keeps : keeping.Ghosts P) (old new : List P) → new ≡ old → StoresNothing keeps old new
+stores_nothing keeps old new = ap (stored_of_first keeps)
 
 module _ {P : Type 0} (calls : Ghosts P) (timer : timing.Ghosts P) (keeps : keeping.Ghosts P) (law : OnlyAppends calls timer keeps.stored) where
   -- what the first processor keeps where each took part in a start
-  passed_keeps : (cx : PlainContext) (s t : PlainSpan) (ps qs : List P) → PassesThrough calls cx s ps qs t → LosesNothing keeps ps qs
-  passed_keeps cx s t [] [] h = loses_nothing keeps [] [] refl
+  passed_keeps : (cx : PlainContext) (s t : PlainSpan) (ps qs : List P) → PassesThrough calls cx s ps qs t → StoresNothing keeps ps qs
+  passed_keeps cx s t [] [] h = stores_nothing keeps [] [] refl
   passed_keeps cx s t [] (q ∷ qs) h = absurd h
   passed_keeps cx s t (p ∷ ps) [] h = absurd h
   passed_keeps cx s t (p ∷ ps) (q ∷ qs) h = law.starts p s cx h.0 q h.1.gives
 
   -- the same where the sampler decided
-  decided_keeps : (decision : SamplingDecision) (cx : PlainContext) (from : SpanStart) (ps qs : List P) (history : SpanHistory) → DecidesStart calls decision cx from ps qs history → LosesNothing keeps ps qs
-  decided_keeps decisions.Drop cx from ps qs history h = loses_nothing keeps ps qs h.1
+  decided_keeps : (decision : SamplingDecision) (cx : PlainContext) (from : SpanStart) (ps qs : List P) (history : SpanHistory) → DecidesStart calls decision cx from ps qs history → StoresNothing keeps ps qs
+  decided_keeps decisions.Drop cx from ps qs history h = stores_nothing keeps ps qs h.1
   decided_keeps decisions.RecordOnly cx from ps qs history h = passed_keeps cx _ _ ps qs h.passes
   decided_keeps decisions.RecordAndSample cx from ps qs history h = passed_keeps cx _ _ ps qs h.passes
 
@@ -59,11 +63,11 @@ module _ {P : Type 0} (calls : Ghosts P) (timer : timing.Ghosts P) (keeps : keep
   each_adds G adds (p ∷ ps) (q ∷ qs) (r ∷ rs) h = adds p r q h.0
 
 module _ {P S G : Type 0} (calls : Calls P S G) (law : OnlyAppends calls.processor calls.timer calls.keeps.stored) where
-  pub started_loses : (starts_nothing : Bool) (old new : ProviderState P S G) (request : StartRequest) (history : SpanHistory)
+  pub started_stores : (starts_nothing : Bool) (old new : ProviderState P S G) (request : StartRequest) (history : SpanHistory)
       → MatchBool starts_nothing ((history ≡ over (unstarted_context old request.cx) old.span_limits) × (new ≡ old)) (StartsOpen calls.processor calls.sampler calls.ids old request history new)
-      → LosesNothing calls.keeps old.processors new.processors
-  started_loses true old new request history h = loses_nothing calls.keeps old.processors new.processors (ap (λ (r : ProviderState P S G). r.processors) h.1)
-  started_loses false old new request history h = decided_keeps calls.processor calls.timer calls.keeps law h.answer.decision request.cx _ old.processors new.processors history h.decided
+      → StoresNothing calls.keeps old.processors new.processors
+  started_stores true old new request history h = stores_nothing calls.keeps old.processors new.processors (ap (λ (r : ProviderState P S G). r.processors) h.1)
+  started_stores false old new request history h = decided_keeps calls.processor calls.timer calls.keeps law h.answer.decision request.cx _ old.processors new.processors history h.decided
 
   pub delivery_grows : (is_shut : Bool) (span : PlainSpanData) (ps qs : List P) (refused : ℕ) → Delivers calls.processor is_shut span ps qs refused → AddsToFirst calls.keeps ps qs
   delivery_grows true span ps qs refused h = adds_nothing calls.keeps ps qs h.0

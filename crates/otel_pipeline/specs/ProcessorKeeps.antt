@@ -24,12 +24,11 @@ pub record TakesBatches {P : Type 0} (calls : Ghosts P) (queues : leaving.Ghosts
   pub open_over : queues.open_over q ≡ queues.open_over p
   pub dropped_over : queues.dropped_over q ≡ queues.dropped_over p
 
--- a call of a processor takes back no batch, and a start loses none
+-- a call of a processor takes back no batch, and a start stores and loses none
 pub record OnlyAppends {P : Type 0} (calls : Ghosts P) (timer : timing.Ghosts P) (stored : P → StoredBatches)
     : Type 0 where
   pub starts : (p : P) (span : PlainSpan) (cx : PlainContext) (edited : PlainSpan) (q : P)
-      → calls.start_gives p span cx edited q
-      → OnlyAdds (stored p) (stored q) × ((stored q).lost ≡ (stored p).lost)
+      → calls.start_gives p span cx edited q → stored q ≡ stored p
   pub ends : (p : P) (span : PlainSpanData) (answer : Result (Unit {0}) AllocError) (q : P)
       → calls.end_gives p span answer q → OnlyAdds (stored p) (stored q)
   pub flushes : (p : P) (answer : Result (Unit {0}) OTelSdkError) (q : P)
@@ -45,12 +44,10 @@ module _ {E : Type 0} (stored : E → StoredBatches) where
   simple_rests old new same =
       adds_none (stored old.exporter) (stored new.exporter) (ap (λ (p : SimpleProcessor E). stored p.exporter) same)
 
-  -- and loses nothing
+  -- and stores nothing
   pub simple_stays : {B : Type 0} (old new : SimpleProcessor E) → (new ≡ old) × B
-      → OnlyAdds (stored old.exporter) (stored new.exporter)
-      × ((stored new.exporter).lost ≡ (stored old.exporter).lost)
-  simple_stays old new h =
-      (simple_rests old new h.0, ap (λ (p : SimpleProcessor E). (stored p.exporter).lost) h.0)
+      → stored new.exporter ≡ stored old.exporter
+  simple_stays old new h = ap (λ (p : SimpleProcessor E). stored p.exporter) h.0
 
   module _ (calls : exporting.Ghosts E)
       (appends : (old : E) (batch : List PlainSpanData) (answer : Result (Unit {0}) OTelSdkError) (new : E)

@@ -59,14 +59,10 @@ module _ {E : Type 0} (calls : Ghosts E) (stored : E → StoredBatches)
   goes_appends next s [] (o ∷ os) t goes = absurd goes
   goes_appends next s (x ∷ xs) [] t goes = absurd goes
 
-  -- a call that leaves a batch processor as it was keeps what is kept and loses nothing
+  -- a call that leaves a batch processor as it was stores nothing
   pub batch_stays : {B : Type 0} (p q : BatchProcessor E) → (q ≡ p) × B
-      → OnlyAdds (stored p.machine.exporter) (stored q.machine.exporter)
-      × ((stored q.machine.exporter).lost ≡ (stored p.machine.exporter).lost)
-  batch_stays p q h = (
-    stays p.machine q.machine (ap (λ (r : BatchProcessor E). r.machine.exporter) h.0),
-    ap (λ (r : BatchProcessor E). (stored r.machine.exporter).lost) h.0,
-  )
+      → stored q.machine.exporter ≡ stored p.machine.exporter
+  batch_stays p q h = ap (λ (r : BatchProcessor E). stored r.machine.exporter) h.0
 
   works_appends : (s : Machine E) (answer : Result (Unit {0}) OTelSdkError) (t : Machine E)
       → WorkerWorks calls s answer t → OnlyAdds (stored s.exporter) (stored t.exporter)

@@ -16,38 +16,38 @@ module _ {E C : Type 0} (stored : E → StoredBatches) where
   processor_stored (kinds.Custom _) = none_stored
 
   module _ (simple : SimpleProcessor E → SimpleProcessor E → Type 0)
+      (batch : BatchProcessor E → BatchProcessor E → Type 0) (custom : C → C → Type 0)
+      (Keeps : StoredBatches → StoredBatches → Type 0) (keeps_none : Keeps none_stored none_stored) where
+    -- what each kind keeps over a call, a processor of any kind does
+    pub processor_keeps :
+        ((a b : SimpleProcessor E) → simple a b → Keeps (stored a.exporter) (stored b.exporter))
+        → ((a b : BatchProcessor E) → batch a b → Keeps (stored a.machine.exporter) (stored b.machine.exporter))
+        → (old new : ProcessorOf E C) → ProcessorGives simple batch custom old new
+        → Keeps (processor_stored old) (processor_stored new)
+    processor_keeps one other (kinds.Simple a) (kinds.Simple b) h = one a b h
+    processor_keeps one other (kinds.Simple a) (kinds.Batch b) h = absurd h
+    processor_keeps one other (kinds.Simple a) (kinds.Custom b) h = absurd h
+    processor_keeps one other (kinds.Batch a) (kinds.Simple b) h = absurd h
+    processor_keeps one other (kinds.Batch a) (kinds.Batch b) h = other a b h
+    processor_keeps one other (kinds.Batch a) (kinds.Custom b) h = absurd h
+    processor_keeps one other (kinds.Custom a) (kinds.Simple b) h = absurd h
+    processor_keeps one other (kinds.Custom a) (kinds.Batch b) h = absurd h
+    processor_keeps one other (kinds.Custom a) (kinds.Custom b) h = keeps_none
+
+  module _ (simple : SimpleProcessor E → SimpleProcessor E → Type 0)
       (batch : BatchProcessor E → BatchProcessor E → Type 0) (custom : C → C → Type 0) where
-    -- a call of a processor of any kind
+    -- a call that adds batches only after those that are kept
     pub processor_appends :
         ((a b : SimpleProcessor E) → simple a b → OnlyAdds (stored a.exporter) (stored b.exporter))
         → ((a b : BatchProcessor E) → batch a b → OnlyAdds (stored a.machine.exporter) (stored b.machine.exporter))
         → (old new : ProcessorOf E C) → ProcessorGives simple batch custom old new
         → OnlyAdds (processor_stored old) (processor_stored new)
-    processor_appends one other (kinds.Simple a) (kinds.Simple b) h = one a b h
-    processor_appends one other (kinds.Simple a) (kinds.Batch b) h = absurd h
-    processor_appends one other (kinds.Simple a) (kinds.Custom b) h = absurd h
-    processor_appends one other (kinds.Batch a) (kinds.Simple b) h = absurd h
-    processor_appends one other (kinds.Batch a) (kinds.Batch b) h = other a b h
-    processor_appends one other (kinds.Batch a) (kinds.Custom b) h = absurd h
-    processor_appends one other (kinds.Custom a) (kinds.Simple b) h = absurd h
-    processor_appends one other (kinds.Custom a) (kinds.Batch b) h = absurd h
-    processor_appends one other (kinds.Custom a) (kinds.Custom b) h = (refl, ([], refl))
+    processor_appends = processor_keeps simple batch custom OnlyAdds (refl, ([], refl))
 
-    -- the same where none is lost either
+    -- a call that stores none
     pub processor_stays :
-        ((a b : SimpleProcessor E) → simple a b → OnlyAdds (stored a.exporter) (stored b.exporter)
-        × ((stored b.exporter).lost ≡ (stored a.exporter).lost))
-        → ((a b : BatchProcessor E) → batch a b → OnlyAdds (stored a.machine.exporter) (stored b.machine.exporter)
-        × ((stored b.machine.exporter).lost ≡ (stored a.machine.exporter).lost))
+        ((a b : SimpleProcessor E) → simple a b → stored b.exporter ≡ stored a.exporter)
+        → ((a b : BatchProcessor E) → batch a b → stored b.machine.exporter ≡ stored a.machine.exporter)
         → (old new : ProcessorOf E C) → ProcessorGives simple batch custom old new
-        → OnlyAdds (processor_stored old) (processor_stored new)
-        × ((processor_stored new).lost ≡ (processor_stored old).lost)
-    processor_stays one other (kinds.Simple a) (kinds.Simple b) h = one a b h
-    processor_stays one other (kinds.Simple a) (kinds.Batch b) h = absurd h
-    processor_stays one other (kinds.Simple a) (kinds.Custom b) h = absurd h
-    processor_stays one other (kinds.Batch a) (kinds.Simple b) h = absurd h
-    processor_stays one other (kinds.Batch a) (kinds.Batch b) h = other a b h
-    processor_stays one other (kinds.Batch a) (kinds.Custom b) h = absurd h
-    processor_stays one other (kinds.Custom a) (kinds.Simple b) h = absurd h
-    processor_stays one other (kinds.Custom a) (kinds.Batch b) h = absurd h
-    processor_stays one other (kinds.Custom a) (kinds.Custom b) h = ((refl, ([], refl)), refl)
+        → processor_stored new ≡ processor_stored old
+    processor_stays = processor_keeps simple batch custom (λ old new. new ≡ old) refl

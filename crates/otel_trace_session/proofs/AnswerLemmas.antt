@@ -12,7 +12,7 @@ use Rattle.otel_trace_session.specs.Shown.{session_losses, session_stored}
 use Rattle.otel_trace_session.specs.Stops.{Answers, CarriesOut, Refuses}
 use Rattle.otel_trace_session.specs.Turns.{SessionState}
 use Rattle.otel_pipeline.proofs.FirstKeeps.{adds_nothing}
-use Rattle.otel_trace_session.proofs.KeptLemmas.{turn_loses_none}
+use Rattle.otel_trace_session.proofs.KeptLemmas.{turn_stores_none}
 use Rattle.otel_trace_session.proofs.NamedLemmas.{described}
 
 -- a command ends a span where its action does
@@ -53,4 +53,4 @@ module _ {P S G : Type 0} (calls : Calls P S G) where
   answers_one law old new command answer false have carries is none =
       let first = described old.spans have in
       let took = carries (record { provider = old.provider; histories = first.0 }) first.1 in
-      record { carried = carries; loses_none = turn_loses_none calls law old.scope (action_of (plain_command command)) _ took.is.is_turn (same_end (plain_command command) ∙ is) }
+      record { carried = carries; loses_none = λ may_not. ap (λ stored. stored.lost) (turn_stores_none calls law old.scope (action_of (plain_command command)) _ took.is.is_turn (same_end (plain_command command) ∙ is) may_not) }

@@ -8,8 +8,8 @@ use crate::trace::{CountsLeftSpans, Timed};
 use otel_export::trace::SpanData;
 use std::alloc::Global;
 
-/// A processor whose exporter may keep its batches until they are taken. At a start, an end, a flush, a shutdown or a
-/// drain batches may only come after those that are kept.
+/// A processor whose exporter may keep its batches until they are taken. At an end, a flush, a shutdown or a drain batches
+/// may only come after those that are kept, and at a start of a span none comes.
 pub trait KeepsBatches: Timed + CountsLeftSpans {
     /// The batches that are kept, those that were taken, and how many were lost; none of each where the exporter keeps
     /// none.
@@ -32,6 +32,6 @@ pub trait KeepsBatches: Timed + CountsLeftSpans {
         ensures takes { TakesBatches Self.SpanProcessor Self.CountsLeftSpans.own stored self.old self.new }
         ensures gives { take_gives self.old self.new };
 
-    /// None of its calls takes back a batch, and a start of a span loses none.
+    /// None of its calls takes back a batch, and a start of a span stores and loses none.
     ghost appends: { OnlyAppends Self.SpanProcessor Self.Timed.own stored };
 }
