@@ -63,8 +63,8 @@ pub extern "C" fn otel_with_float(alloc: Global, handle: &mut Handle, key: &[u8]
 /// Gathers an attribute, a truth value, for what comes next: false where it is 0.
 #[unsafe(no_mangle)]
 pub extern "C" fn otel_with_bool(alloc: Global, handle: &mut Handle, key: &[u8], value: u32) -> u32
-    ensures { Answers result (Gathers key.now (λ made. made ≡ boolean (not (value == 0)))) (λ p q. q.inside ≡ p.inside)
-        handle.old.held.pipeline handle.new.held.pipeline }
+    ensures { Answers result (Gathers key.now (λ made. made ≡ boolean (not (value == 0))))
+        (λ p q. q.inside ≡ p.inside) handle.old.held.pipeline handle.new.held.pipeline }
 {
     gather(alloc, handle, key, HostValue::Truth(value != 0))
 }

@@ -172,9 +172,9 @@ pub extern "C" fn otel_set_status(
     code: u32,
     description: &[u8],
 ) -> u32
-    ensures answers { Answers result (λ p q. (status : PlainStatus) × IsStatus code description.now status × EditsSpan
-        p.inside span (set_status status ∷ []) q.inside) (λ p q. Stays p.inside q.inside) handle.old.held.pipeline
-        handle.new.held.pipeline }
+    ensures answers { Answers result (λ p q. (status : PlainStatus) × IsStatus code description.now status
+        × EditsSpan p.inside span (set_status status ∷ []) q.inside)
+        (λ p q. Stays p.inside q.inside) handle.old.held.pipeline handle.new.held.pipeline }
     ensures free { code ≤ 1 → IfSome handle.old.held.pipeline (λ p.
         IsSome (span_at p.inside.spans span) → result ≡ 0) }
 {

@@ -1,7 +1,7 @@
 //! What becomes of ended spans, and how many are where.
 
 ghost use Rattle.std.specs.Prelude.{◌≡◌, ◌≢◌, ◌≤◌, ◌<◌, ◌⊎◌, IfSome, None, length};
-ghost use Rattle.otel_c.specs.Handles.{Calls, Holds, ShowsNumbers, Turns, TurnsIfOpen};
+ghost use Rattle.otel_c.specs.Handles.{FlowsIfOpen, Holds, ShowsNumbers, Turns, TurnsIfOpen};
 ghost use Rattle.otel_embed.specs.Flows.{flushed, ran, shut};
 ghost use Rattle.otel_embed.specs.Pipelines.{CountsIn, DrainsInto, FlowsBy};
 ghost use Rattle.otel_embed.specs.declared.numbers.Numbers.{Numbers as TheNumbers};
@@ -11,7 +11,7 @@ use crate::status::{OTEL_BUFFER_TOO_SMALL, OTEL_CLOSED, OTEL_OK, status_of, stat
 use opentelemetry::Moment;
 use otel_embed::Numbers;
 use otel_embed::pipeline::HostInside;
-use otel_embed::pipeline_of::HostPipeline;
+use otel_pipeline::trace::Provides;
 use std::alloc::Global;
 
 /// How many spans are where, for C.
@@ -40,7 +40,8 @@ fn counts_of(numbers: Numbers) -> Counts
 /// Exports what waits in the queue, into the lines that `otel_drain` hands out.
 #[unsafe(no_mangle)]
 pub extern "C" fn otel_flush(alloc: Global, handle: &mut Handle) -> u32
-    ensures { Calls result (λ done p q. FlowsBy ⟦<HostInside as HostPipeline>⟧.calls flushed done p.inside q.inside)
+    ensures { FlowsIfOpen result
+        (λ done p q. FlowsBy ⟦<HostInside as Provides>⟧.calls flushed done p.inside q.inside)
         handle.old.held.pipeline handle.new.held.pipeline }
 {
     let Some(mut pipeline) = handle.take(alloc) else {
@@ -54,8 +55,8 @@ pub extern "C" fn otel_flush(alloc: Global, handle: &mut Handle) -> u32
 /// Exports what is due at this moment, which is not before that of an earlier call.
 #[unsafe(no_mangle)]
 pub extern "C" fn otel_run(alloc: Global, handle: &mut Handle, moment: u64) -> u32
-    ensures { Calls result (λ done p q.
-        FlowsBy ⟦<HostInside as HostPipeline>⟧.calls (ran moment) done p.inside q.inside)
+    ensures { FlowsIfOpen result
+        (λ done p q. FlowsBy ⟦<HostInside as Provides>⟧.calls (ran moment) done p.inside q.inside)
         handle.old.held.pipeline handle.new.held.pipeline }
 {
     let Some(mut pipeline) = handle.take(alloc) else {
@@ -76,7 +77,7 @@ pub extern "C" fn otel_drain(
     lines_length: &mut usize,
 ) -> u32
     ensures ok { (result ≡ 0) ⊎ (result ≡ 8) → Turns (λ p q.
-        DrainsInto ⟦<HostInside as HostPipeline>⟧.calls p.inside buffer.old lines_length.new buffer.new q.inside)
+        DrainsInto ⟦<HostInside as Provides>⟧.calls p.inside buffer.old lines_length.new buffer.new q.inside)
         handle.old.held.pipeline handle.new.held.pipeline }
     ensures fits { (result ≡ 0 → lines_length.new ≤ length buffer.old)
         × (result ≡ 8 → length buffer.old < lines_length.new) }
@@ -106,7 +107,7 @@ pub extern "C" fn otel_drain(
 #[unsafe(no_mangle)]
 pub extern "C" fn otel_count(alloc: Global, handle: &mut Handle, numbers: &mut Counts) -> u32
     ensures ok { result ≡ 0 → Holds (λ p. (counted : TheNumbers)
-        × CountsIn ⟦<HostInside as HostPipeline>⟧.calls p.inside counted × ShowsNumbers counted numbers.new)
+        × CountsIn ⟦<HostInside as Provides>⟧.calls p.inside counted × ShowsNumbers counted numbers.new)
         handle.old.held.pipeline }
     ensures stays { handle.new.held.pipeline ≡ handle.old.held.pipeline }
 {
@@ -121,7 +122,8 @@ pub extern "C" fn otel_count(alloc: Global, handle: &mut Handle, numbers: &mut C
 /// Exports what waits, and nothing afterwards. Lines can still be drained.
 #[unsafe(no_mangle)]
 pub extern "C" fn otel_shutdown(alloc: Global, handle: &mut Handle) -> u32
-    ensures { Calls result (λ done p q. FlowsBy ⟦<HostInside as HostPipeline>⟧.calls shut done p.inside q.inside)
+    ensures { FlowsIfOpen result
+        (λ done p q. FlowsBy ⟦<HostInside as Provides>⟧.calls shut done p.inside q.inside)
         handle.old.held.pipeline handle.new.held.pipeline }
 {
     let Some(mut pipeline) = handle.take(alloc) else {

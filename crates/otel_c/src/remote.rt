@@ -5,14 +5,14 @@ ghost use Rattle.opentelemetry.specs.declared.trace.span_kind.SpanKind.{SpanKind
 ghost use Rattle.otel_c.specs.Handles.{Answers, CopiesText, Holds};
 ghost use Rattle.otel_embed.specs.Headers.{IsContextOf};
 ghost use Rattle.otel_embed.specs.HostValues.{IsKind};
-ghost use Rattle.otel_embed.specs.Pipelines.{LinksToRemote, RefusesIn, SaysHeaders, StartsIn, Stays, taken};
+ghost use Rattle.otel_embed.specs.Pipelines.{LinksToRemote, RefusesIn, SaysHeaders, StartsIn, Stays, asked_start, taken};
 
 use crate::handle::Handle;
 use crate::status::{OTEL_CLOSED, status_of, status_of_result, write_number, write_text};
 use opentelemetry::Moment;
 use otel_embed::HostHeaders;
 use otel_embed::pipeline::HostInside;
-use otel_embed::pipeline_of::HostPipeline;
+use otel_pipeline::trace::Provides;
 use std::alloc::Global;
 
 /// Starts a span as a child of the one that these headers name, or a root where they name none.
@@ -30,12 +30,12 @@ pub extern "C" fn otel_start_remote(
     key: &mut u64,
 ) -> u32
     ensures answers { Answers result (λ p q. (asked : TheKinds) × IsKind kind asked × StartsIn
-        ⟦<HostInside as HostPipeline>⟧.calls (IsContextOf (record {
+        ⟦<HostInside as Provides>⟧.calls (IsContextOf (record {
           traceparent = traceparent.now;
           tracestate = tracestate.now;
           baggage = baggage.now;
-        })) p.inside tracer asked moment name.now key.new q.inside)
-        (λ p q. RefusesIn ⟦<HostInside as HostPipeline>⟧.calls p.inside q.inside)
+        })) p.inside (asked_start tracer asked moment name.now) key.new q.inside)
+        (λ p q. RefusesIn ⟦<HostInside as Provides>⟧.calls p.inside q.inside)
         handle.old.held.pipeline handle.new.held.pipeline }
     ensures refused { result ≢ 0 → key.new ≡ key.old }
 {

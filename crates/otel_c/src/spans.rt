@@ -6,7 +6,7 @@ ghost use Rattle.otel_embed.specs.Keys.{span_at};
 ghost use Rattle.opentelemetry.specs.declared.trace.span_kind.SpanKind.{SpanKind as TheKinds};
 ghost use Rattle.otel_embed.specs.HostValues.{IsKind};
 ghost use Rattle.otel_embed.specs.Pipelines.{Abandons, EndNeedsNone, EndsSpan, Identifies, IsContextUnder, RefusesIn};
-ghost use Rattle.otel_embed.specs.Pipelines.{StartsIn, Stays};
+ghost use Rattle.otel_embed.specs.Pipelines.{StartsIn, Stays, asked_start};
 ghost use Rattle.otel_embed.specs.declared.span_calls.SpanIdentity.{SpanIdentity as TheIdentity};
 
 use crate::handle::Handle;
@@ -14,7 +14,7 @@ use crate::status::{OTEL_CLOSED, OTEL_OK, status_of, status_of_result, write_num
 use opentelemetry::Moment;
 use otel_embed::SpanIdentity;
 use otel_embed::pipeline::HostInside;
-use otel_embed::pipeline_of::HostPipeline;
+use otel_pipeline::trace::Provides;
 use std::alloc::Global;
 
 /// Who a span is, for C. The ids are numbers, whose high byte is the first of the id's text.
@@ -54,9 +54,9 @@ pub extern "C" fn otel_start(
     key: &mut u64,
 ) -> u32
     ensures answers { Answers result (λ p q. (asked : TheKinds) × IsKind kind asked × StartsIn
-        ⟦<HostInside as HostPipeline>⟧.calls (IsContextUnder p.inside.spans parent) p.inside tracer asked moment
-        name.now key.new q.inside)
-        (λ p q. RefusesIn ⟦<HostInside as HostPipeline>⟧.calls p.inside q.inside)
+        ⟦<HostInside as Provides>⟧.calls (IsContextUnder p.inside.spans parent) p.inside
+        (asked_start tracer asked moment name.now) key.new q.inside)
+        (λ p q. RefusesIn ⟦<HostInside as Provides>⟧.calls p.inside q.inside)
         handle.old.held.pipeline handle.new.held.pipeline }
     ensures refused { result ≢ 0 → key.new ≡ key.old }
 {
@@ -100,8 +100,9 @@ pub extern "C" fn otel_identity(
 /// Ends a span, which is handed on for export where it is sampled. Its key names nothing from then on.
 #[unsafe(no_mangle)]
 pub extern "C" fn otel_end(alloc: Global, handle: &mut Handle, span: u64, moment: u64) -> u32
-    ensures answers { Answers result (λ p q. EndsSpan ⟦<HostInside as HostPipeline>⟧.calls.processor p.inside span moment
-        q.inside) (λ p q. Stays p.inside q.inside) handle.old.held.pipeline handle.new.held.pipeline }
+    ensures answers { Answers result
+        (λ p q. EndsSpan ⟦<HostInside as Provides>⟧.calls.processor p.inside span moment q.inside)
+        (λ p q. Stays p.inside q.inside) handle.old.held.pipeline handle.new.held.pipeline }
     ensures free { IfSome handle.old.held.pipeline (λ p. EndNeedsNone p.inside span → result ≡ 0) }
 {
     let Some(mut pipeline) = handle.take(alloc) else {

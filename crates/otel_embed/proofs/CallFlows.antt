@@ -41,11 +41,11 @@ module _ {P S G : Type 0} (calls : Calls P S G) where
       lines = ap (λ (p : PipelineState P S G). p.flow.lines) h.rest;
     };
     ends = λ old new key moment h. (
-      h.ends.found,
+      h.found,
       h.refused,
-      h.ends.closes.was_there,
+      h.closes.was_there,
       record {
-        provider = (refl, h.ends.ends);
+        provider = (refl, h.ends);
         resource = ap (λ (p : PipelineState P S G). p.flow.resource) h.rest;
         lines = ap (λ (p : PipelineState P S G). p.flow.lines) h.rest;
       },

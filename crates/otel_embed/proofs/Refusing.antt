@@ -1,13 +1,12 @@
 -- What a refused call leaves of a pipeline.
 use Rattle.std.proofs.Common.{◌≡◌, ◌∙◌, ℕ, List, [], Result, Ok, Err, OnErr, ap, inr, refl, subst, sym}
 use Rattle.opentelemetry.specs.Plain.{PlainContext, PlainKeyValue}
-use Rattle.opentelemetry.specs.declared.trace.span_kind.SpanKind.{SpanKind}
 use Rattle.otel_pipeline.specs.Calls.{Calls}
 use Rattle.otel_pipeline.specs.Provider.{ProviderState}
 use Rattle.otel_pipeline.specs.StartRequest.{StartRequest}
 use Rattle.otel_embed.specs.Keys.{OpenedSpans, SameSpans}
 use Rattle.otel_embed.specs.Flows.{MayStart}
-use Rattle.otel_embed.specs.Pipelines.{PipelineState, RefusesIn, StartsIn, taken}
+use Rattle.otel_embed.specs.Pipelines.{AskedStart, PipelineState, RefusesIn, StartsIn, taken}
 
 -- a start that is refused
 pub start_refused : {P S G E : Type 0} (calls : Calls P S G) (answer : Result ℕ E) (old : PipelineState P S G) (request : StartRequest) (spans : OpenedSpans) (provider : ProviderState P S G)
@@ -28,13 +27,13 @@ module _ {P S G : Type 0} (calls : Calls P S G) where
 
   -- and one that is not, in a context of which something is so, with what was gathered
   pub started_after : (InContext : PlainContext → Type 0) (old between new : PipelineState P S G) (attributes : List PlainKeyValue) (cx : PlainContext)
-      (tracer : ℕ) (kind : SpanKind) (moment : ℕ) (name : List ℕ) (key : ℕ)
+      (asked : AskedStart) (key : ℕ)
       → between ≡ taken old → new.gathered ≡ between.gathered → attributes ≡ old.gathered → InContext cx
-      → StartsIn calls (λ found. found ≡ cx) (record between { gathered = attributes }) tracer kind moment name key (record new { gathered = [] })
-      → StartsIn calls InContext old tracer kind moment name key new
-  started_after InContext old between new attributes cx tracer kind moment name key e same given in_context starts =
-      let one = subst (λ (b : PipelineState P S G). StartsIn calls (λ found. found ≡ cx) (record b { gathered = attributes }) tracer kind moment name key (record new { gathered = [] })) e starts in
-      let h = subst (λ (a : List PlainKeyValue). StartsIn calls (λ found. found ≡ cx) (record (taken old) { gathered = a }) tracer kind moment name key (record new { gathered = [] })) given one in
+      → StartsIn calls (λ found. found ≡ cx) (record between { gathered = attributes }) asked key (record new { gathered = [] })
+      → StartsIn calls InContext old asked key new
+  started_after InContext old between new attributes cx asked key e same given in_context starts =
+      let one = subst (λ (b : PipelineState P S G). StartsIn calls (λ found. found ≡ cx) (record b { gathered = attributes }) asked key (record new { gathered = [] })) e starts in
+      let h = subst (λ (a : List PlainKeyValue). StartsIn calls (λ found. found ≡ cx) (record (taken old) { gathered = a }) asked key (record new { gathered = [] })) given one in
       let none : new.gathered ≡ [] = same ∙ ap (λ (b : PipelineState P S G). b.gathered) e in
       let whole : new ≡ record new { gathered = [] } = λ k. record new { gathered = none k } in
       record {

@@ -1,14 +1,13 @@
--- Spans that start and end under their keys.
+-- Spans that start under their keys.
 use Rattle.std.specs.Prelude.{◌≡◌, ℕ, Some, None}
 use Rattle.otel_sampling.specs.declared.trace.sampler.ShouldSample as sampling
 use Rattle.otel_sampling.specs.declared.trace.id_generator.GivesIds as drawing
-use Rattle.otel_pipeline.specs.Ending.{Ends}
 use Rattle.otel_pipeline.specs.Provider.{ProviderState}
 use Rattle.otel_pipeline.specs.SpanHistory.{SpanHistory, span_of}
 use Rattle.otel_pipeline.specs.StartRequest.{StartRequest}
 use Rattle.otel_pipeline.specs.Starting.{Starts}
 use Rattle.otel_pipeline.specs.declared.trace.span_processor.SpanProcessor.{Ghosts}
-use Rattle.otel_embed.specs.Keys.{Closes, OpenedSpan, OpenedSpans, Opens, Puts, span_at}
+use Rattle.otel_embed.specs.Keys.{OpenedSpans, Opens, Puts, span_at}
 
 module _ {P S G : Type 0} (calls : Ghosts P) (sampler : sampling.Ghosts S) (ids : drawing.Ghosts G) where
   -- a span was started as it was asked for, under a key that was free
@@ -25,10 +24,3 @@ module _ {P S G : Type 0} (calls : Ghosts P) (sampler : sampling.Ghosts S) (ids 
     pub history : SpanHistory
     pub starts : Starts calls sampler ids old request history new
     pub opens : Opens spans key (record { span = span_of history; cx = request.cx }) later
-
--- the span of a key has ended, which names none from then on, and so many processors refused it
-pub record EndsAt {P S G : Type 0} (calls : Ghosts P) (old : ProviderState P S G) (spans : OpenedSpans)
-    (key moment refused : ℕ) (new : ProviderState P S G) (later : OpenedSpans) : Type 0 where
-  pub found : OpenedSpan
-  pub ends : Ends calls old found.span moment refused new
-  pub closes : Closes spans key found later

@@ -9,8 +9,9 @@ use Rattle.opentelemetry.specs.PlainSpanBuilder.{PlainSpanBuilder}
 use Rattle.opentelemetry.specs.declared.trace.span_kind.SpanKind.{SpanKind}
 use Rattle.otel_export.specs.declared.error.OTelSdkError.{OTelSdkError}
 use Rattle.otel_pipeline.specs.Calls.{Calls}
-use Rattle.otel_pipeline.specs.Ending.{EndIsInfallible}
+use Rattle.otel_pipeline.specs.Ending.{EndIsInfallible, Ends}
 use Rattle.otel_pipeline.specs.FirstProcessor.{losses_of_first}
+use Rattle.otel_pipeline.specs.InSpan.{active_in}
 use Rattle.otel_pipeline.specs.SpanEdits.{new_link}
 use Rattle.otel_pipeline.specs.SpanHistory.{Edit, add_link}
 use Rattle.otel_pipeline.specs.StartRequest.{StartRequest, start_request}
@@ -18,7 +19,7 @@ use Rattle.otel_pipeline.specs.declared.trace.span_processor.SpanProcessor.{Ghos
 use Rattle.otel_embed.specs.Flows.{Answers, Did, DoesTo, Flow, MayStart, drained}
 use Rattle.otel_embed.specs.Headers.{IsContextOf, PlainHeaders, SetsContext, header_lines}
 use Rattle.otel_embed.specs.Keys.{Closes, EditsAt, OpenedSpan, OpenedSpans, SameSpans, span_at}
-use Rattle.otel_embed.specs.KeyedSpans.{EndsAt, StartsAt}
+use Rattle.otel_embed.specs.KeyedSpans.{StartsAt}
 use Rattle.otel_embed.specs.declared.numbers.Numbers.{Numbers}
 use Rattle.otel_embed.specs.declared.span_calls.SpanIdentity.{SpanIdentity}
 
@@ -31,14 +32,20 @@ pub record PipelineState (P S G : Type 0) : Type 0 where
   pub gathered : List PlainKeyValue
   pub refusals : ℕ
 
--- the context in which an open span is active
-abbrev pub active_in : OpenedSpan → PlainContext
-active_in found = record found.cx { span_context = Some found.span.span_context }
-
 -- the context of a start under a parent: that in which the span of its key is active, and for 0 that of a root
 abbrev pub IsContextUnder : OpenedSpans → ℕ → PlainContext → Type 0
 IsContextUnder spans parent cx = MatchBool (parent == 0) (cx ≡ root_cx)
-    ((found : OpenedSpan) × (span_at spans parent ≡ Some found) × (cx ≡ active_in found))
+    ((found : OpenedSpan) × (span_at spans parent ≡ Some found) × (cx ≡ active_in found.cx found.span))
+
+-- how a host asks for a span to start: its tracer by number, its kind, its moment and its name
+pub record AskedStart : Type 0 where
+  pub tracer : ℕ
+  pub kind : SpanKind
+  pub moment : ℕ
+  pub name : List ℕ
+
+abbrev pub asked_start : ℕ → SpanKind → ℕ → List ℕ → AskedStart
+asked_start tracer kind moment name = record { tracer = tracer; kind = kind; moment = moment; name = name }
 
 -- what a span of a host begins with
 abbrev pub host_builder : List ℕ → SpanKind → List PlainKeyValue → PlainSpanBuilder
@@ -53,14 +60,14 @@ host_builder name kind attributes = record {
 
 module _ {P S G : Type 0} (calls : Calls P S G) where
   -- a host's span was started in a context of which this is so, with the attributes that were gathered
-  pub record StartsIn (InContext : PlainContext → Type 0) (old : PipelineState P S G) (tracer : ℕ) (kind : SpanKind)
-      (moment : ℕ) (name : List ℕ) (key : ℕ) (new : PipelineState P S G) : Type 0 where
+  pub record StartsIn (InContext : PlainContext → Type 0) (old : PipelineState P S G) (asked : AskedStart) (key : ℕ)
+      (new : PipelineState P S G) : Type 0 where
     pub cx : PlainContext
     pub scope : PlainScope
     pub in_context : InContext cx
-    pub by_tracer : slice_get old.scopes tracer ≡ Some scope
+    pub by_tracer : slice_get old.scopes asked.tracer ≡ Some scope
     pub starts : StartsAt calls.processor calls.sampler calls.ids old.flow.provider old.spans
-        (start_request scope (host_builder name kind old.gathered) cx moment) key new.flow.provider new.spans
+        (start_request scope (host_builder asked.name asked.kind old.gathered) cx asked.moment) key new.flow.provider new.spans
     pub rest : new ≡ record old
         { flow = record old.flow { provider = new.flow.provider }; spans = new.spans; gathered = [] }
 
@@ -91,7 +98,9 @@ pub record Stays {P S G : Type 0} (old new : PipelineState P S G) : Type 0 where
 pub record EndsSpan {P S G : Type 0} (calls : Ghosts P) (old : PipelineState P S G) (key moment : ℕ)
     (new : PipelineState P S G) : Type 0 where
   pub refused : ℕ
-  pub ends : EndsAt calls old.flow.provider old.spans key moment refused new.flow.provider new.spans
+  pub found : OpenedSpan
+  pub ends : Ends calls old.flow.provider found.span moment refused new.flow.provider
+  pub closes : Closes old.spans key found new.spans
   pub counts : new.refusals ≡ min (old.refusals + refused) (2 ^ 64 - 1)
   pub rest : new ≡ record old {
     flow = record old.flow { provider = new.flow.provider };
@@ -159,7 +168,7 @@ pub record LinksTo {P S G : Type 0} (old : PipelineState P S G) (key linked : �
 pub record SetsHeadersOf {P S G : Type 0} (pipeline : PipelineState P S G) (key : ℕ) (old new : Texts) : Type 0 where
   pub found : OpenedSpan
   pub is_open : span_at pipeline.spans key ≡ Some found
-  pub sets : SetsContext (active_in found) old new
+  pub sets : SetsContext (active_in found.cx found.span) old new
 
 -- the lines of the headers that hand a span on
 pub record SaysHeaders {P S G : Type 0} (pipeline : PipelineState P S G) (key : ℕ) (lines : List ℕ) : Type 0 where

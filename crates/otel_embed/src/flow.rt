@@ -1,7 +1,6 @@
 //! What becomes of ended spans: the queue is worked off, what was exported becomes lines, and lines are handed out.
 
 ghost use Rattle.std.specs.Prelude.{◌≡◌, [], IfErr, IfOk, IsOk, OnErr, OnOk, length};
-ghost use Rattle.otel_pipeline.specs.Calls.{calls_of};
 ghost use Rattle.otel_embed.specs.Flows.{flushed, ran, shut};
 ghost use Rattle.otel_embed.specs.Pipelines.{CountsIn, Drains, DrainsInto, FlowsBy};
 
@@ -10,16 +9,15 @@ use crate::numbers::{Numbers, dropped_in, waiting_in};
 use crate::pipeline_of::PipelineOf;
 use opentelemetry::Moment;
 use otel_otlp::write_requests;
-use otel_pipeline::trace::KeepsBatches;
 use otel_pipeline::trace::first_processor::{kept_by_first, lost_by_first, take_of_first};
+use otel_pipeline::trace::{KeepsBatches, Provides};
 use otel_sampling::trace::{GivesIds, ShouldSample};
 
 impl<P: KeepsBatches, S: ShouldSample, G: GivesIds> PipelineOf<P, S, G> {
     /// Exports what waits in the queue. `NotExported` where that failed.
     pub fn flush(&mut self) -> Result<(), PipelineError>
-        ensures flows { FlowsBy
-            (calls_of P.SpanProcessor P.Timed.own P.CountsLeftSpans.own P.KeepsBatches.own S.ShouldSample G.GivesIds)
-            flushed (IsOk result) self.old self.new }
+        ensures flows { FlowsBy ⟦<PipelineOf<P, S, G> as Provides>⟧.calls flushed (IsOk result) self.old
+            self.new }
         ensures err { IfErr result (λ error. error ≡ PipelineError.NotExported) }
     {
         self.provider
@@ -29,8 +27,7 @@ impl<P: KeepsBatches, S: ShouldSample, G: GivesIds> PipelineOf<P, S, G> {
 
     /// Exports what is due at this moment, which is not before that of an earlier call. `NotExported` where that failed.
     pub fn run_due(&mut self, now: Moment) -> Result<(), PipelineError>
-        ensures flows { FlowsBy
-            (calls_of P.SpanProcessor P.Timed.own P.CountsLeftSpans.own P.KeepsBatches.own S.ShouldSample G.GivesIds)
+        ensures flows { FlowsBy ⟦<PipelineOf<P, S, G> as Provides>⟧.calls
             (ran now.0) (IsOk result) self.old self.new }
         ensures err { IfErr result (λ error. error ≡ PipelineError.NotExported) }
     {
@@ -41,8 +38,7 @@ impl<P: KeepsBatches, S: ShouldSample, G: GivesIds> PipelineOf<P, S, G> {
 
     /// Exports what waits, and nothing afterwards. `NotExported` where that failed, or it was shut down before.
     pub fn shutdown(&mut self) -> Result<(), PipelineError>
-        ensures flows { FlowsBy
-            (calls_of P.SpanProcessor P.Timed.own P.CountsLeftSpans.own P.KeepsBatches.own S.ShouldSample G.GivesIds)
+        ensures flows { FlowsBy ⟦<PipelineOf<P, S, G> as Provides>⟧.calls
             shut (IsOk result) self.old self.new }
         ensures err { IfErr result (λ error. error ≡ PipelineError.NotExported) }
     {
@@ -53,9 +49,7 @@ impl<P: KeepsBatches, S: ShouldSample, G: GivesIds> PipelineOf<P, S, G> {
 
     /// Turns the batches that were exported into lines, after those that are there.
     fn collect_lines(&mut self) -> Result<(), PipelineError>
-        ensures ok { OnOk result (Drains
-            (calls_of P.SpanProcessor P.Timed.own P.CountsLeftSpans.own P.KeepsBatches.own S.ShouldSample G.GivesIds)
-            [] self.old self.new) }
+        ensures ok { OnOk result (Drains ⟦<PipelineOf<P, S, G> as Provides>⟧.calls [] self.old self.new) }
         ensures err { IfErr result (λ error. (error ≡ PipelineError.OutOfMemory) × (self.new ≡ self.old)) }
     {
         let batches = kept_by_first(self.provider.processors());
@@ -69,8 +63,7 @@ impl<P: KeepsBatches, S: ShouldSample, G: GivesIds> PipelineOf<P, S, G> {
     /// for, nothing is copied and nothing forgotten.
     pub fn drain(&mut self, buffer: &mut [u8]) -> Result<usize, PipelineError>
         ensures room { length buffer.new ≡ length buffer.old }
-        ensures ok { IfOk result (λ taken. DrainsInto
-            (calls_of P.SpanProcessor P.Timed.own P.CountsLeftSpans.own P.KeepsBatches.own S.ShouldSample G.GivesIds)
+        ensures ok { IfOk result (λ taken. DrainsInto ⟦<PipelineOf<P, S, G> as Provides>⟧.calls
             self.old buffer.old taken buffer.new self.new) }
         ensures err { IfErr result (λ error. (error ≡ PipelineError.OutOfMemory) × (self.new ≡ self.old)
             × (buffer.new ≡ buffer.old)) }
@@ -86,9 +79,7 @@ impl<P: KeepsBatches, S: ShouldSample, G: GivesIds> PipelineOf<P, S, G> {
 
     /// How many spans are where.
     pub fn numbers(&self) -> Numbers
-        ensures { CountsIn
-            (calls_of P.SpanProcessor P.Timed.own P.CountsLeftSpans.own P.KeepsBatches.own S.ShouldSample G.GivesIds)
-            self.now result }
+        ensures { CountsIn ⟦<PipelineOf<P, S, G> as Provides>⟧.calls self.now result }
     {
         let processors = self.provider.processors();
         Numbers {

@@ -1,13 +1,14 @@
 //! A span that a host holds by its key, with the context that it was started in: a baggage there goes on to children and
 //! to other processes. A span has to be spent: one that is left is abandoned.
 
-ghost use Rattle.std.specs.Prelude.{◌≡◌, IfOk, IsOk, OnErr, OnOk, Some};
+ghost use Rattle.std.specs.Prelude.{◌≡◌, IfOk, IsOk, OnErr, OnOk};
 ghost use Rattle.otel_pipeline.specs.Ending.{EndIsInfallible, Ends};
+ghost use Rattle.otel_pipeline.specs.InSpan.{active_in};
 ghost use Rattle.otel_pipeline.specs.SpanHistory.{after};
 
 use crate::changes_span::ChangesSpan;
 use opentelemetry::{Context, Moment};
-use otel_pipeline::trace::{ProviderOf, Span, SpanProcessor};
+use otel_pipeline::trace::{ProviderOf, Span, SpanProcessor, context_inside};
 use std::alloc::AllocError;
 use std::marker::Model;
 
@@ -36,10 +37,9 @@ impl Drop for OpenSpan {
 impl OpenSpan {
     /// The context in which the span is active, with all else that the context has that it was started in.
     pub(crate) fn active_context(&self) -> Result<Context, AllocError>
-        ensures { IfOk result (λ cx. cx
-            ≡ record self.now.cx { span_context = Some self.now.span.span_context }) }
+        ensures { IfOk result (λ cx. cx ≡ active_in self.now.cx self.now.span) }
     {
-        self.cx.with_span_context(self.span.span_context().clone()?)
+        context_inside(&self.cx, &self.span)
     }
 
     /// Makes a change of the span.

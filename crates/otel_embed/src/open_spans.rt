@@ -2,9 +2,9 @@
 
 ghost use Rattle.std.specs.Prelude.{◌≡◌, [], IfErr, IfOk, IsOk, OnErr, OnOk, None, Some, length};
 ghost use Rattle.otel_embed.specs.Keys.{Closes, EditsAt, IsRefusedAt, OpenedSpan, Opens, SameSpans, span_at};
-ghost use Rattle.otel_pipeline.specs.Ending.{EndIsInfallible};
+ghost use Rattle.otel_pipeline.specs.Ending.{EndIsInfallible, Ends};
 ghost use Rattle.otel_embed.specs.Flows.{MayStart};
-ghost use Rattle.otel_embed.specs.KeyedSpans.{EndsAt, StartsAt, StartsUnder};
+ghost use Rattle.otel_embed.specs.KeyedSpans.{StartsAt, StartsUnder};
 ghost use Rattle.otel_pipeline.specs.StartRequest.{start_request};
 
 use crate::changes_span::ChangesSpan;
@@ -116,8 +116,9 @@ impl OpenSpans {
         provider: &mut ProviderOf<P, S, G>,
         moment: Moment,
     ) -> Result<usize, PipelineError>
-        ensures ok { IfOk result (λ refused. EndsAt P.SpanProcessor provider.old self.old key moment.0 refused
-            provider.new self.new) }
+        ensures ok { IfOk result (λ refused. (found : OpenedSpan)
+            × Ends P.SpanProcessor provider.old found.span moment.0 refused provider.new
+            × Closes self.old key found self.new) }
         ensures err { OnErr result (SameSpans self.old self.new × (provider.new ≡ provider.old)) }
         ensures why { IfErr result (IsRefusedAt self.old key) }
         ensures free { (found : OpenedSpan) → span_at self.old key ≡ Some found

@@ -1,10 +1,10 @@
 //! A pipeline over any one kind of processor, sampler and source of ids: its provider, its tracers and open spans by
 //! numbers, the attributes that were gathered for what comes next, and the lines that were not handed out yet.
 
-ghost use Rattle.std.specs.Prelude.{◌≡◌, ◌++◌, ◌∷◌, [], IfErr, IfOk, IsOk, OnErr, OnOk, slice_get, None, Some, map};
+ghost use Rattle.std.specs.Prelude.{◌≡◌, ◌++◌, ◌∷◌, [], IfErr, IfOk, IsOk, OnErr, OnOk};
+ghost use Rattle.std.specs.Prelude.{None, Some, map, slice_get};
 ghost use Rattle.std.specs.Prelude.{string_bytes};
 ghost use Rattle.otel_embed.specs.Keys.{IsRefusedAt, OpenedSpan, span_at};
-ghost use Rattle.otel_pipeline.specs.Calls.{Calls, calls_of};
 ghost use Rattle.otel_pipeline.specs.SpanHistory.{set_attribute};
 ghost use Rattle.otel_embed.specs.Pipelines.{
   Abandons,
@@ -16,6 +16,7 @@ ghost use Rattle.otel_embed.specs.Pipelines.{
   RefusesIn,
   StartsIn,
   Stays,
+  asked_start,
   taken,
 };
 
@@ -24,7 +25,9 @@ use crate::error::PipelineError;
 use crate::open_spans::OpenSpans;
 use opentelemetry::trace::{SpanBuilder, SpanKind};
 use opentelemetry::{Context, InstrumentationScope, KeyValue, Moment};
-use otel_pipeline::trace::{CloseReport, CountsLeftSpans, KeepsBatches, ProviderOf, SdkTracer};
+use otel_pipeline::trace::{
+    CloseReport, CountsLeftSpans, KeepsBatches, ProviderOf, Provides, SdkTracer,
+};
 use otel_resource::resource::Resource;
 use otel_sampling::trace::{GivesIds, ShouldSample};
 use std::alloc::Global;
@@ -62,27 +65,14 @@ impl<P, S, G> Model for PipelineOf<P, S, G> {
     } };
 }
 
-/// A pipeline whose calls can be spoken of.
-pub trait HostPipeline {
-    type Processor;
-
-    type Sampler;
-
-    type Ids;
-
-    /// What is said of the calls of its provider's processors, of its sampler and of its source of ids.
-    ghost calls: { Calls Self.Processor Self.Sampler Self.Ids };
-}
-
-impl<P: KeepsBatches, S: ShouldSample, G: GivesIds> HostPipeline for PipelineOf<P, S, G> {
+impl<P: KeepsBatches, S: ShouldSample, G: GivesIds> Provides for PipelineOf<P, S, G> {
     type Processor = P;
 
     type Sampler = S;
 
     type Ids = G;
 
-    ghost calls = { calls_of P.SpanProcessor P.Timed.own P.CountsLeftSpans.own P.KeepsBatches.own
-        S.ShouldSample G.GivesIds };
+    ghost calls = { ⟦<ProviderOf<P, S, G> as Provides>⟧.calls };
 }
 
 /// How a span of a host starts.
@@ -240,13 +230,10 @@ impl<P: KeepsBatches, S: ShouldSample, G: GivesIds> PipelineOf<P, S, G> {
         parent: u64,
         name: String,
     ) -> Result<u64, PipelineError>
-        ensures ok { IfOk result (λ key. StartsIn
-            (calls_of P.SpanProcessor P.Timed.own P.CountsLeftSpans.own P.KeepsBatches.own S.ShouldSample G.GivesIds)
-            (IsContextUnder self.old.spans parent) self.old start.tracer start.kind start.moment.0 (string_bytes name)
-            key self.new) }
-        ensures err { OnErr result (RefusesIn
-            (calls_of P.SpanProcessor P.Timed.own P.CountsLeftSpans.own P.KeepsBatches.own S.ShouldSample G.GivesIds)
-            self.old self.new) }
+        ensures ok { IfOk result (λ key. StartsIn ⟦<PipelineOf<P, S, G> as Provides>⟧.calls
+            (IsContextUnder self.old.spans parent) self.old
+            (asked_start start.tracer start.kind start.moment.0 (string_bytes name)) key self.new) }
+        ensures err { OnErr result (RefusesIn ⟦<PipelineOf<P, S, G> as Provides>⟧.calls self.old self.new) }
     {
         let attributes = self.take_gathered();
         let cx = self.context_under(parent)?;
@@ -261,13 +248,10 @@ impl<P: KeepsBatches, S: ShouldSample, G: GivesIds> PipelineOf<P, S, G> {
         name: String,
         attributes: Vec<KeyValue>,
     ) -> Result<u64, PipelineError>
-        ensures ok { IfOk result (λ key. StartsIn
-            (calls_of P.SpanProcessor P.Timed.own P.CountsLeftSpans.own P.KeepsBatches.own S.ShouldSample G.GivesIds)
-            (λ found. found ≡ cx) (record self.old { gathered = attributes.items }) start.tracer start.kind
-            start.moment.0 (string_bytes name) key (record self.new { gathered = [] })) }
-        ensures err { OnErr result (RefusesIn
-            (calls_of P.SpanProcessor P.Timed.own P.CountsLeftSpans.own P.KeepsBatches.own S.ShouldSample G.GivesIds)
-            self.old (record self.new { gathered = [] })) }
+        ensures ok { IfOk result (λ key. StartsIn ⟦<PipelineOf<P, S, G> as Provides>⟧.calls (λ found. found ≡ cx)
+            (record self.old { gathered = attributes.items })
+            (asked_start start.tracer start.kind start.moment.0 (string_bytes name)) key (taken self.new)) }
+        ensures err { OnErr result (RefusesIn ⟦<PipelineOf<P, S, G> as Provides>⟧.calls self.old (taken self.new)) }
         ensures gathered { self.new.gathered ≡ self.old.gathered }
     {
         let tracer = match tracer_at(&self.tracers, start.tracer) {

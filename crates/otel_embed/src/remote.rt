@@ -3,10 +3,10 @@
 ghost use Rattle.std.specs.Prelude.{◌≡◌, ◌<◌, IfOk, OnErr, OnOk, Some, is_some, string_bytes};
 ghost use Rattle.opentelemetry.specs.Plain.{PlainContext};
 ghost use Rattle.opentelemetry.specs.PlainContexts.{current_span_context};
-ghost use Rattle.otel_pipeline.specs.Calls.{calls_of};
 ghost use Rattle.otel_embed.specs.Headers.{IsContextOf, plain_headers};
 ghost use Rattle.otel_embed.specs.Keys.{span_at};
-ghost use Rattle.otel_embed.specs.Pipelines.{LinksTo, LinksToRemote, RefusesIn, SetsHeadersOf, StartsIn, Stays, taken};
+ghost use Rattle.otel_embed.specs.Pipelines.{LinksTo, LinksToRemote, RefusesIn, SetsHeadersOf, StartsIn, Stays};
+ghost use Rattle.otel_embed.specs.Pipelines.{asked_start, taken};
 
 use crate::error::PipelineError;
 use crate::headers::inject;
@@ -14,7 +14,7 @@ use crate::host_headers::{HostHeaders, host_context};
 use crate::pipeline_of::{HostStart, PipelineOf};
 use opentelemetry::propagation::Injector;
 use opentelemetry::trace::{Link, SpanContext};
-use otel_pipeline::trace::{KeepsBatches, SpanEdit};
+use otel_pipeline::trace::{KeepsBatches, Provides, SpanEdit};
 use otel_sampling::trace::{GivesIds, ShouldSample};
 use std::alloc::{AllocError, Global};
 
@@ -27,13 +27,10 @@ impl<P: KeepsBatches, S: ShouldSample, G: GivesIds> PipelineOf<P, S, G> {
         headers: HostHeaders<'_>,
         name: String,
     ) -> Result<u64, PipelineError>
-        ensures ok { IfOk result (λ key. StartsIn
-            (calls_of P.SpanProcessor P.Timed.own P.CountsLeftSpans.own P.KeepsBatches.own S.ShouldSample G.GivesIds)
-            (IsContextOf (plain_headers headers.entry)) self.old start.tracer start.kind start.moment.0
-            (string_bytes name) key self.new) }
-        ensures err { OnErr result (RefusesIn
-            (calls_of P.SpanProcessor P.Timed.own P.CountsLeftSpans.own P.KeepsBatches.own S.ShouldSample G.GivesIds)
-            self.old self.new) }
+        ensures ok { IfOk result (λ key. StartsIn ⟦<PipelineOf<P, S, G> as Provides>⟧.calls
+            (IsContextOf (plain_headers headers.entry)) self.old
+            (asked_start start.tracer start.kind start.moment.0 (string_bytes name)) key self.new) }
+        ensures err { OnErr result (RefusesIn ⟦<PipelineOf<P, S, G> as Provides>⟧.calls self.old self.new) }
     {
         let attributes = self.take_gathered();
         let cx = host_context(self.alloc, headers)?;

@@ -3,7 +3,6 @@
 ghost use Rattle.std.specs.Prelude.{◌≡◌, ◌≤◌, ◌<◌, ◌++◌, ◌∷◌, [], Err, IfOk, IsErr, IsOk, IsSome, OnErr, OnOk};
 ghost use Rattle.std.specs.Prelude.{string_bytes};
 ghost use Rattle.otel_embed.specs.Keys.{span_at};
-ghost use Rattle.otel_pipeline.specs.Calls.{calls_of};
 ghost use Rattle.opentelemetry.specs.Plain.{PlainStatus, PlainValue};
 ghost use Rattle.opentelemetry.specs.declared.trace.span_kind.SpanKind.{SpanKind as TheKinds};
 ghost use Rattle.otel_pipeline.specs.SpanEdits.{new_event};
@@ -12,7 +11,7 @@ ghost use Rattle.otel_pipeline.specs.SpanHistory.{add_event, set_attribute, set_
 ghost use Rattle.otel_embed.specs.Headers.{IsContextOf, plain_headers};
 ghost use Rattle.otel_embed.specs.HostValues.{IsKind, IsStatus, IsValueOf, host_exception, host_scope};
 ghost use Rattle.otel_embed.specs.Pipelines.{AddsTracer, EditsSpan, Identifies, IsContextUnder};
-ghost use Rattle.otel_embed.specs.Pipelines.{RefusesIn, SaysHeaders, StartsIn, Stays, taken};
+ghost use Rattle.otel_embed.specs.Pipelines.{RefusesIn, SaysHeaders, StartsIn, Stays, asked_start, taken};
 
 use crate::changes_span::MetError;
 use crate::error::PipelineError;
@@ -22,7 +21,7 @@ use crate::values::{HostValue, attribute_of, optional_text, status_of, text_of};
 use opentelemetry::propagation::MapCarrier;
 use opentelemetry::trace::{Event, SpanKind};
 use opentelemetry::{InstrumentationScope, Moment};
-use otel_pipeline::trace::{Exception, KeepsBatches, SpanEdit};
+use otel_pipeline::trace::{Exception, KeepsBatches, Provides, SpanEdit};
 use otel_sampling::trace::{GivesIds, ShouldSample};
 use std::alloc::Global;
 
@@ -121,13 +120,10 @@ impl<P: KeepsBatches, S: ShouldSample, G: GivesIds> PipelineOf<P, S, G> {
         name: &[u8],
         moment: Moment,
     ) -> Result<u64, PipelineError>
-        ensures ok { IfOk result (λ key. (asked : TheKinds) × IsKind kind asked × StartsIn
-            (calls_of P.SpanProcessor P.Timed.own P.CountsLeftSpans.own P.KeepsBatches.own S.ShouldSample G.GivesIds)
-            (IsContextUnder self.old.spans parent) self.old tracer asked moment.0 name.now key
-            self.new) }
-        ensures err { OnErr result (RefusesIn
-            (calls_of P.SpanProcessor P.Timed.own P.CountsLeftSpans.own P.KeepsBatches.own S.ShouldSample G.GivesIds)
-            self.old self.new) }
+        ensures ok { IfOk result (λ key. (asked : TheKinds) × IsKind kind asked
+            × StartsIn ⟦<PipelineOf<P, S, G> as Provides>⟧.calls (IsContextUnder self.old.spans parent) self.old
+            (asked_start tracer asked moment.0 name.now) key self.new) }
+        ensures err { OnErr result (RefusesIn ⟦<PipelineOf<P, S, G> as Provides>⟧.calls self.old self.new) }
     {
         match self.asked_start(tracer, kind, name, moment) {
             Ok((start, name)) => self.start_under(start, parent, name),
@@ -144,12 +140,10 @@ impl<P: KeepsBatches, S: ShouldSample, G: GivesIds> PipelineOf<P, S, G> {
         name: &[u8],
         moment: Moment,
     ) -> Result<u64, PipelineError>
-        ensures ok { IfOk result (λ key. (asked : TheKinds) × IsKind kind asked × StartsIn
-            (calls_of P.SpanProcessor P.Timed.own P.CountsLeftSpans.own P.KeepsBatches.own S.ShouldSample G.GivesIds)
-            (IsContextOf (plain_headers headers.entry)) self.old tracer asked moment.0 name.now key self.new) }
-        ensures err { OnErr result (RefusesIn
-            (calls_of P.SpanProcessor P.Timed.own P.CountsLeftSpans.own P.KeepsBatches.own S.ShouldSample G.GivesIds)
-            self.old self.new) }
+        ensures ok { IfOk result (λ key. (asked : TheKinds) × IsKind kind asked
+            × StartsIn ⟦<PipelineOf<P, S, G> as Provides>⟧.calls (IsContextOf (plain_headers headers.entry)) self.old
+            (asked_start tracer asked moment.0 name.now) key self.new) }
+        ensures err { OnErr result (RefusesIn ⟦<PipelineOf<P, S, G> as Provides>⟧.calls self.old self.new) }
     {
         match self.asked_start(tracer, kind, name, moment) {
             Ok((start, name)) => self.start_from(start, headers, name),

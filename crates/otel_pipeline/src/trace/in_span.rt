@@ -205,8 +205,8 @@ impl SdkTracer {
     }
 }
 
-/// The context in which this span is active.
-pub(crate) fn context_inside(cx: &Context, span: &Span) -> Result<Context, AllocError>
+/// The context in which this span is active, with all else that is in this one.
+pub fn context_inside(cx: &Context, span: &Span) -> Result<Context, AllocError>
     ensures { IfOk result (λ inside. inside ≡ active_in cx.now span.now) }
 {
     cx.with_span_context(span.span_context().clone()?)

@@ -1,6 +1,6 @@
 //! What a span has recorded, in a block of its own, so that the span itself moves lightly.
 
-ghost use Rattle.std.specs.Prelude.{◌≡◌, ◌<◌, [], Some, None, is_some, IfOk, option_copied, vec_capacity, vec_len};
+ghost use Rattle.std.specs.Prelude.{◌≡◌, [], Some, None, is_some, IfOk, option_copied};
 
 use crate::trace::SpanBlock;
 use otel_export::trace::SpanData;
@@ -42,9 +42,10 @@ impl Recorded {
         requires { room.items ≡ [] }
         ensures { IfOk result (λ recorded. recorded ≡ Some span) }
     {
-        let mut data = with_room(room)?;
-        data.push_reserved(span);
-        Ok(Recorded { data })
+        let block = SpanBlock::within(room, span)?;
+        Ok(Recorded {
+            data: block.into_batch(),
+        })
     }
 
     pub(crate) fn is_some(&self) -> bool
@@ -76,18 +77,5 @@ impl Recorded {
         ensures { self.new ≡ None }
     {
         self.data.clear();
-    }
-}
-
-/// An empty list as it is, where it has room for a span, or else one that has.
-fn with_room(list: Vec<SpanData>) -> Result<Vec<SpanData>, AllocError>
-    requires { list.items ≡ [] }
-    ensures items { IfOk result (λ list. list.items ≡ []) }
-    ensures room { IfOk result (λ list. vec_len list < vec_capacity list) }
-{
-    if list.capacity() == 0 {
-        Vec::with_capacity(*list.allocator(), 1)
-    } else {
-        Ok(list)
     }
 }

@@ -1,6 +1,6 @@
 //! The data of a span in a block of its own: it moves lightly, and is a batch of one as it stands.
 
-ghost use Rattle.std.specs.Prelude.{◌≡◌, ◌∷◌, [], IfOk, length};
+ghost use Rattle.std.specs.Prelude.{◌≡◌, ◌<◌, ◌∷◌, [], IfOk, length, vec_capacity, vec_len};
 ghost use Rattle.otel_pipeline.specs.SpanHistory.{ended_at};
 
 use opentelemetry::Moment;
@@ -33,7 +33,16 @@ impl SpanBlock {
     pub fn new(alloc: Global, span: SpanData) -> Result<SpanBlock, AllocError>
         ensures { IfOk result (λ block. block ≡ span) }
     {
-        let mut data = Vec::with_capacity(alloc, 1)?;
+        SpanBlock::within(Vec::new(alloc), span)
+    }
+
+    /// This data, in the room of this list, or where that has none in a block that is taken for it.
+    #[inline(always)]
+    pub(crate) fn within(room: Vec<SpanData>, span: SpanData) -> Result<SpanBlock, AllocError>
+        requires { room.items ≡ [] }
+        ensures { IfOk result (λ block. block ≡ span) }
+    {
+        let mut data = with_room(room)?;
         data.push_reserved(span);
         Ok(SpanBlock { data })
     }
@@ -81,10 +90,24 @@ impl SpanBlock {
     }
 
     /// The same as a batch of one.
+    #[inline(always)]
     pub fn into_batch(self) -> Vec<SpanData>
         ensures { result.items ≡ self ∷ [] }
     {
         let SpanBlock { data } = self;
         data
+    }
+}
+
+/// An empty list as it is, where it has room for a span, or else one that has.
+fn with_room(list: Vec<SpanData>) -> Result<Vec<SpanData>, AllocError>
+    requires { list.items ≡ [] }
+    ensures items { IfOk result (λ list. list.items ≡ []) }
+    ensures room { IfOk result (λ list. vec_len list < vec_capacity list) }
+{
+    if list.capacity() == 0 {
+        Vec::with_capacity(*list.allocator(), 1)
+    } else {
+        Ok(list)
     }
 }

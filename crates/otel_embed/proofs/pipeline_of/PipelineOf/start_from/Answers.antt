@@ -8,7 +8,7 @@ pub returns-clause-ok : goal.returns-clause-ok
 returns-clause-ok g c =
     let calls = calls_of g.P.SpanProcessor g.P.Timed g.P.CountsLeftSpans g.P.KeepsBatches g.S.ShouldSample g.G.GivesIds in
     if_ok_map c.start_in.result (λ key starts. started_after calls (IsContextOf (plain_headers c.args.headers)) c.args.self.now c.take_gathered-attributes.new.self c.start_in.new.self
-    _ c.in_ok-cx.cx c.args.start.tracer c.args.start.kind c.args.start.moment.0 _ key c.take_gathered-attributes.ensures.rest c.start_in.ensures.gathered
+    _ c.in_ok-cx.cx _ key c.take_gathered-attributes.ensures.rest c.start_in.ensures.gathered
     c.take_gathered-attributes.ensures.taken c.in_ok-cx.ensures starts) c.start_in.ensures.ok
 
 pub returns-clause-err : goal.returns-clause-err
