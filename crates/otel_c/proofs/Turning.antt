@@ -1,10 +1,13 @@
 -- What was done to a pipeline was done to that of its handle.
 use Rattle.std.proofs.Common.{◌≡◌, ◌≢◌, ◌⊎◌, ◌∙◌, inl, inr, ℕ, Bool, false, Option, None, Some, is_some, Result, Ok, Err, IfErr, IfOk, IfSome, IsOk, IsSome, OnErr, ap, refl, sym, subst}
+use Rattle.otel_embed.specs.Flows.{Did}
+use Rattle.otel_embed.specs.Pipelines.{FlowsBy, PipelineState}
 use Rattle.otel_embed.specs.declared.pipeline.Pipeline.{Pipeline}
+use Rattle.otel_pipeline.specs.Calls.{Calls}
 use Rattle.otel_embed.specs.Keys.{OpenedSpan, OpenedSpans, span_at}
 use Rattle.otel_embed.specs.declared.error.PipelineError.{PipelineError}
 use Rattle.otel_embed.specs.declared.error.PipelineError.TheVariants as errors
-use Rattle.otel_c.specs.Handles.{Holds, Turns, TurnsIfOpen, answer_status, error_status}
+use Rattle.otel_c.specs.Handles.{FlowsIfOpen, Holds, Turns, TurnsIfOpen, answer_status, error_status}
 
 pub turned : (Does : Pipeline → Pipeline → Type 0) (was now : Option Pipeline) (p q : Pipeline) → was ≡ Some p → now ≡ Some q → Does p q → Turns Does was now
 turned Does was now p q e f did = subst (λ (x : Option Pipeline). Turns Does x now) (sym e) (subst (λ (y : Option Pipeline). Turns Does (Some p) y) (sym f) did)
@@ -39,6 +42,19 @@ same_held held p q e f = let both : Some p ≡ Some q = sym e ∙ f in cc
 pub flow_status : (answer : Result (Unit {0}) PipelineError) (status : ℕ) → status ≡ answer_status answer → IfErr answer (λ error. error ≡ errors.NotExported) → (status ≡ 0) ⊎ (status ≡ 9)
 flow_status (Ok _) status is _ = inl is
 flow_status (Err error) status is why = inr (is ∙ ap error_status why)
+
+-- a call of the provider did this, and where it succeeded is said otherwise
+pub flows_by : {P S G : Type 0} (calls : Calls P S G) (did : Did) (Succeeds Says : Type 0) (p q : PipelineState P S G) → (Succeeds → Says) → (Says → Succeeds) → FlowsBy calls did Succeeds p q → FlowsBy calls did Says p q
+flows_by calls did Succeeds Says p q to from flows = record { answer = flows.answer; answers = flows.answers; says = (λ is. to (flows.says.0 is), λ is. flows.says.1 (from is)); rest = flows.rest }
+
+-- what a call of the pipeline that a handle holds answers, as its status
+pub flowed : (Flows : Type 0 → Pipeline → Pipeline → Type 0) (answer : Result (Unit {0}) PipelineError) (status : ℕ) (was now : Option Pipeline) (p q : Pipeline) → was ≡ Some p → now ≡ Some q → Flows (status ≡ 0) p q
+    → status ≡ answer_status answer → IfErr answer (λ error. error ≡ errors.NotExported) → FlowsIfOpen status Flows was now
+flowed Flows answer status was now p q held holds flows is why = record {
+  flows = turned_if_open (Flows (status ≡ 0)) was now p q held holds flows;
+  closed = λ none. absurd (let both : Some p ≡ None = sym held ∙ none in cc);
+  failed = if_held (λ _. (status ≡ 0) ⊎ (status ≡ 9)) was (λ x e. flow_status answer status is why);
+}
 
 -- a call that is refused only where no span has its key goes well where one has
 pub ok_where_open : (spans : OpenedSpans) (key : ℕ) (answer : Result (Unit {0}) PipelineError) → IfErr answer (λ error. (error ≡ errors.NoSuchSpan) × (span_at spans key ≡ None)) → IsSome (span_at spans key)

@@ -41,8 +41,9 @@ pub record Answers (status : ℕ) (Does Fails : Pipeline → Pipeline → Type 0
 
 -- a call to the pipeline's processors, which may fail, was carried out if there is a pipeline: 0 where it did not fail,
 -- 9 where it did, and 1 where there is none
-pub record Calls (status : ℕ) (Does : Type 0 → Pipeline → Pipeline → Type 0) (was now : Option Pipeline) : Type 0 where
-  pub does : TurnsIfOpen (Does (status ≡ 0)) was now
+pub record FlowsIfOpen (status : ℕ) (Flows : Type 0 → Pipeline → Pipeline → Type 0) (was now : Option Pipeline)
+    : Type 0 where
+  pub flows : TurnsIfOpen (Flows (status ≡ 0)) was now
   pub closed : was ≡ None → status ≡ 1
   pub failed : IfSome was (λ _. (status ≡ 0) ⊎ (status ≡ 9))
 

@@ -1,5 +1,5 @@
 //! A pipeline on the heap, as a struct that C keeps.
-ghost use Rattle.otel_loose.specs.Kept.{keeps};
+ghost use Rattle.otel_c.specs.Kept.{keeps};
 ghost use Rattle.std.specs.Prelude.{◌≡◌, true, false, is_some, IsSome, IfSome, IfNone};
 ghost use Rattle.std.specs.contracts.impls.GlobalAllocator.TheImpl.{ghosts};
 ghost use Rattle.std.specs.declared.option.Option.{Option};
@@ -8,8 +8,8 @@ ghost use Rattle.otel_c.specs.Handles.{pipeline_code};
 ghost use Rattle.otel_embed.specs.contracts.pipeline.Pipeline.{the_row};
 ghost use Rattle.otel_embed.specs.declared.pipeline.Pipeline.{Pipeline};
 
+use crate::loose::Loose;
 use otel_embed::Pipeline;
-use otel_loose::Loose;
 use std::alloc::Global;
 use std::marker::Model;
 use std::mem::replace;

@@ -7,6 +7,7 @@ mod attributes;
 mod edits;
 mod flow;
 mod handle;
+mod loose;
 mod opening;
 mod remote;
 mod spans;

@@ -1,9 +1,9 @@
 -- `empty` makes a `Held` that owns its two fields alone.
-use Rattle.otel_loose.proofs.Steps.{List, [], ◌∷◌, ◌++◌, refl, lit<, ftrue, fsep, tables, RawPtr, yes, null_ptr, ptr_val}
-use Rattle.otel_loose.proofs.Steps.{Slot, plain, nothing, Stays, stay_dropped, walk_of, Goes-dropped, says, ends_at, Val}
-use Rattle.otel_loose.proofs.Steps.{vstruct, vcons, vnil, WpFn, alloc_all, pass_all, free_all, look_at, get, sets, ‵, raw}
-use Rattle.otel_loose.proofs.Steps.{◌⊛◌, prop, ◌$◌, ◌∵◌, !, qed, done, move, keep, split, join, fsplit, fjoin, fjoin3}
-use Rattle.otel_loose.proofs.Steps.{fpack, feq_i, regoal, suffices, agg, lit, no_more, and_then, returns, enter, proved_at}
+use Rattle.otel_c.proofs.Steps.{List, [], ◌∷◌, ◌++◌, refl, lit<, ftrue, fsep, tables, RawPtr, yes, null_ptr, ptr_val}
+use Rattle.otel_c.proofs.Steps.{Slot, plain, nothing, Stays, stay_dropped, walk_of, Goes-dropped, says, ends_at, Val}
+use Rattle.otel_c.proofs.Steps.{vstruct, vcons, vnil, WpFn, alloc_all, pass_all, free_all, look_at, get, sets, ‵, raw}
+use Rattle.otel_c.proofs.Steps.{◌⊛◌, prop, ◌$◌, ◌∵◌, !, qed, done, move, keep, split, join, fsplit, fjoin, fjoin3}
+use Rattle.otel_c.proofs.Steps.{fpack, feq_i, regoal, suffices, agg, lit, no_more, and_then, returns, enter, proved_at}
 use denote.RattleType.{Valss}
 use denote.Struct.Owning.{shape, to}
 use denote.Struct.Struct.{within}

@@ -1,11 +1,11 @@
 -- `into_loose` moves the two fields, and what the `Held` owns goes with them.
-use Rattle.otel_loose.proofs.Owners.{box_at, Kept, full, stored}
-use Rattle.otel_loose.proofs.Steps.{List, [], ◌∷◌, ◌++◌, refl, sym, id⊢, ftrue, fsep, fact, tables, yes, Slot, plain}
-use Rattle.otel_loose.proofs.Steps.{nothing, heard, Stays, stay_dropped, walk_of, Goes-dropped, says, ends_at, Val, WpFn}
-use Rattle.otel_loose.proofs.Steps.{alloc_all, pass_all, free_all, look_at, get, get_in, sets, ‵, raw, ◌⊛◌, prop, ◌$◌, ◌∵◌}
-use Rattle.otel_loose.proofs.Steps.{ !, qed, done, move, keep, use1, split, join, fsplit, fjoin, regoal, suffices, agg, sub}
-use Rattle.otel_loose.proofs.Steps.{whole, stop, fld, of_opd, no_more, and_then, returns, enter, word, proved_at}
-use Rattle.otel_loose.specs.contracts.Loose as loose
+use Rattle.otel_c.proofs.Owners.{box_at, Kept, full, stored}
+use Rattle.otel_c.proofs.Steps.{List, [], ◌∷◌, ◌++◌, refl, sym, id⊢, ftrue, fsep, fact, tables, yes, Slot, plain}
+use Rattle.otel_c.proofs.Steps.{nothing, heard, Stays, stay_dropped, walk_of, Goes-dropped, says, ends_at, Val, WpFn}
+use Rattle.otel_c.proofs.Steps.{alloc_all, pass_all, free_all, look_at, get, get_in, sets, ‵, raw, ◌⊛◌, prop, ◌$◌, ◌∵◌}
+use Rattle.otel_c.proofs.Steps.{ !, qed, done, move, keep, use1, split, join, fsplit, fjoin, regoal, suffices, agg, sub}
+use Rattle.otel_c.proofs.Steps.{whole, stop, fld, of_opd, no_more, and_then, returns, enter, word, proved_at}
+use Rattle.otel_c.specs.contracts.loose.Loose as loose
 use Rattle.std.specs.Prelude.{IsSome}
 use Rattle.otel_c.proofs.Types.{E}
 use Rattle.otel_c.specs.contracts.handle.Held as held

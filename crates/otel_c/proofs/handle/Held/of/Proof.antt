@@ -1,11 +1,11 @@
 -- `of` moves the two fields, and what the `Loose` owns goes with them.
-use Rattle.otel_loose.proofs.Owners.{box_at, stored}
-use Rattle.otel_loose.proofs.Steps.{List, [], ◌∷◌, ◌++◌, refl, id⊢, ftrue, fsep, tables, no, Slot, plain, nothing, Stays}
-use Rattle.otel_loose.proofs.Steps.{stay_dropped, walk_of, Goes-dropped, says, ends_at, Val, WpFn, alloc_all, pass_all}
-use Rattle.otel_loose.proofs.Steps.{free_all, look_at, get, get_in, sets, ‵, raw, ◌⊛◌, prop, ◌$◌, ◌∵◌, !, qed, done, move}
-use Rattle.otel_loose.proofs.Steps.{keep, use1, split, join, fsplit, fjoin, regoal, suffices, agg, sub, whole, stop, fld}
-use Rattle.otel_loose.proofs.Steps.{of_opd, no_more, and_then, returns, enter, B, word, proved_at}
-use Rattle.otel_loose.specs.contracts.Loose as loose
+use Rattle.otel_c.proofs.Owners.{box_at, stored}
+use Rattle.otel_c.proofs.Steps.{List, [], ◌∷◌, ◌++◌, refl, id⊢, ftrue, fsep, tables, no, Slot, plain, nothing, Stays}
+use Rattle.otel_c.proofs.Steps.{stay_dropped, walk_of, Goes-dropped, says, ends_at, Val, WpFn, alloc_all, pass_all}
+use Rattle.otel_c.proofs.Steps.{free_all, look_at, get, get_in, sets, ‵, raw, ◌⊛◌, prop, ◌$◌, ◌∵◌, !, qed, done, move}
+use Rattle.otel_c.proofs.Steps.{keep, use1, split, join, fsplit, fjoin, regoal, suffices, agg, sub, whole, stop, fld}
+use Rattle.otel_c.proofs.Steps.{of_opd, no_more, and_then, returns, enter, B, word, proved_at}
+use Rattle.otel_c.specs.contracts.loose.Loose as loose
 use Rattle.std.specs.declared.option.Option.TheVariants.{Some}
 use Rattle.otel_c.proofs.Types.{E}
 use Rattle.otel_c.specs.contracts.handle.Held.{the_row}

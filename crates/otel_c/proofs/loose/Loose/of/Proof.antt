@@ -1,22 +1,22 @@
 -- `of` takes the box apart by `into_raw_with_allocator`, and puts the pointer and the handle side by side.
-use Rattle.otel_loose.proofs.Owners.{box_at, stored}
-use Rattle.otel_loose.proofs.Steps.{◌≡◌, List, [], ◌∷◌, ◌++◌, refl, ap, id⊢, ftrue, fsep, flft, fact, ◌⊑◌, tables, RawPtr}
-use Rattle.otel_loose.proofs.Steps.{no, Ptr, Slot, plain, nothing, only, heard, calls_at, triple_of, framed, Stays}
-use Rattle.otel_loose.proofs.Steps.{stay_dropped, walk_of, says, ends_at, inst_fn, Val, WpFn, alloc_all, pass_all}
-use Rattle.otel_loose.proofs.Steps.{free_all, look_at, get, get_in, sets, lands_as, ‵, raw, ◌⊛◌, some, later, prop, ◌$◌}
-use Rattle.otel_loose.proofs.Steps.{◌∵◌, !, qed, done, move, drop, use1, split, split3, join, fsplit, fjoin, pick, await}
-use Rattle.otel_loose.proofs.Steps.{rewrite, regoal, suffices, agg, sub, whole, stop, fld, of_opd, no_more, and_then}
-use Rattle.otel_loose.proofs.Steps.{returns, enter, Bx, R, P, B, word, Goes-blank, proved_at}
+use Rattle.otel_c.proofs.Owners.{box_at, stored}
+use Rattle.otel_c.proofs.Steps.{◌≡◌, List, [], ◌∷◌, ◌++◌, refl, ap, id⊢, ftrue, fsep, flft, fact, ◌⊑◌, tables, RawPtr}
+use Rattle.otel_c.proofs.Steps.{no, Ptr, Slot, plain, nothing, only, heard, calls_at, triple_of, framed, Stays}
+use Rattle.otel_c.proofs.Steps.{stay_dropped, walk_of, says, ends_at, inst_fn, Val, WpFn, alloc_all, pass_all}
+use Rattle.otel_c.proofs.Steps.{free_all, look_at, get, get_in, sets, lands_as, ‵, raw, ◌⊛◌, some, later, prop, ◌$◌}
+use Rattle.otel_c.proofs.Steps.{◌∵◌, !, qed, done, move, drop, use1, split, split3, join, fsplit, fjoin, pick, await}
+use Rattle.otel_c.proofs.Steps.{rewrite, regoal, suffices, agg, sub, whole, stop, fld, of_opd, no_more, and_then}
+use Rattle.otel_c.proofs.Steps.{returns, enter, Bx, R, P, B, word, Goes-blank, proved_at}
 use denote.Param.{bounded}
 use denote.Struct.Tuple.{Tuple}
 use mir.Syntax.{Args, a_type, dcons, dnil}
 use Rattle.std.specs.Box.Ownership.{box_owns}
 use Rattle.std.specs.contracts.boxed.Box.into_raw_with_allocator as into_raw
 use Rattle.std.proofs.boxed.Box.into_raw_with_allocator.Met.{met}
-use Rattle.otel_loose.specs.contracts.Loose as loose
-use Rattle.otel_loose.specs.contracts.Loose.of as f
-use Rattle.otel_loose.proofs.Loose.of.Statement.{statement}
-use Rattle.otel_loose.proofs.Loose.of.Code as code
+use Rattle.otel_c.specs.contracts.loose.Loose as loose
+use Rattle.otel_c.specs.contracts.loose.Loose.of as f
+use Rattle.otel_c.proofs.loose.Loose.of.Statement.{statement}
+use Rattle.otel_c.proofs.loose.Loose.of.Code as code
 
 pub of_spec : {M : Type 1} → statement M
 of_spec 𝓤 𝓛 𝓜 𝓡 wired T A LT LA g d dd dx allocator glue_A glue_T =

@@ -1,23 +1,23 @@
 -- `into_box` takes the two fields apart and hands what they own to `from_raw`, which makes the box.
-use Rattle.otel_loose.proofs.Owners.{box_at}
-use Rattle.otel_loose.proofs.Steps.{◌≡◌, List, [], ◌∷◌, ◌++◌, refl, id⊢, ftrue, fsep, flft, fact, ◌⊑◌, tables, no}
-use Rattle.otel_loose.proofs.Steps.{block_ptr, Slot, plain, nothing, heard, peeks, calls_at_last, triple_of, framed, Stays}
-use Rattle.otel_loose.proofs.Steps.{stay_dropped, walk_of, says, ends_at, inst_fn, Val, vptr, WpFn, alloc_all, pass_all}
-use Rattle.otel_loose.proofs.Steps.{free_all, look_at, get, get_in, sets, lands_last, env, ‵, raw, ◌⊛◌, some, later, prop}
-use Rattle.otel_loose.proofs.Steps.{at_ret, ◌$◌, ◌∵◌, !, qed, done, move, drop, group, use1, split, split3, join, fsplit}
-use Rattle.otel_loose.proofs.Steps.{fjoin, fjoin3, feq_i, pick, await, regoal, suffices, sub, whole, stop, fld, of_opd}
-use Rattle.otel_loose.proofs.Steps.{no_more, and_then, first, blocks, exec, returns, enter, Bx, D, R, P, B, args}
-use Rattle.otel_loose.proofs.Steps.{box_typed, Goes-blank, proved_at}
+use Rattle.otel_c.proofs.Owners.{box_at}
+use Rattle.otel_c.proofs.Steps.{◌≡◌, List, [], ◌∷◌, ◌++◌, refl, id⊢, ftrue, fsep, flft, fact, ◌⊑◌, tables, no}
+use Rattle.otel_c.proofs.Steps.{block_ptr, Slot, plain, nothing, heard, peeks, calls_at_last, triple_of, framed, Stays}
+use Rattle.otel_c.proofs.Steps.{stay_dropped, walk_of, says, ends_at, inst_fn, Val, vptr, WpFn, alloc_all, pass_all}
+use Rattle.otel_c.proofs.Steps.{free_all, look_at, get, get_in, sets, lands_last, env, ‵, raw, ◌⊛◌, some, later, prop}
+use Rattle.otel_c.proofs.Steps.{at_ret, ◌$◌, ◌∵◌, !, qed, done, move, drop, group, use1, split, split3, join, fsplit}
+use Rattle.otel_c.proofs.Steps.{fjoin, fjoin3, feq_i, pick, await, regoal, suffices, sub, whole, stop, fld, of_opd}
+use Rattle.otel_c.proofs.Steps.{no_more, and_then, first, blocks, exec, returns, enter, Bx, D, R, P, B, args}
+use Rattle.otel_c.proofs.Steps.{box_typed, Goes-blank, proved_at}
 use denote.Laws.{Is, shows}
 use denote.Param.Laws.{param_laws}
 use Rattle.std.proofs.BoxSteps.Steps.{box_out}
 use Rattle.std.proofs.boxed.Box.TheLaws.{the_row_laws}
 use Rattle.std.specs.contracts.boxed.Box.from_raw as from_raw
 use Rattle.std.proofs.boxed.Box.from_raw.Met.{met}
-use Rattle.otel_loose.specs.contracts.Loose as loose
-use Rattle.otel_loose.specs.contracts.Loose.into_box as f
-use Rattle.otel_loose.proofs.Loose.into_box.Statement.{statement}
-use Rattle.otel_loose.proofs.Loose.into_box.Code as code
+use Rattle.otel_c.specs.contracts.loose.Loose as loose
+use Rattle.otel_c.specs.contracts.loose.Loose.into_box as f
+use Rattle.otel_c.proofs.loose.Loose.into_box.Statement.{statement}
+use Rattle.otel_c.proofs.loose.Loose.into_box.Code as code
 
 pub into_box_spec : {M : Type 1} → statement M
 into_box_spec 𝓤 𝓛 𝓜 𝓡 wired T A LT LA g d dd allocator glue =

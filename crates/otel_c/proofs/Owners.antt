@@ -3,8 +3,8 @@
 --     E           the types of the value and of the allocator, with what is known of each
 --     box_at      a box as a value: its pointer, its allocator's handle and what it holds
 --     Kept        what a struct for C owns: its two fields, and the box where there is a value
-use Rattle.otel_loose.proofs.Steps.{◌≡◌, ℕ, List, [], ◌∷◌, refl, fsep, id⊢, Ptr, Val, Item, Goal, Seq, ‵, ◌$◌, use1, Bx, D}
-use Rattle.otel_loose.proofs.Steps.{R, B, word, box_typed}
+use Rattle.otel_c.proofs.Steps.{◌≡◌, ℕ, List, [], ◌∷◌, refl, fsep, id⊢, Ptr, Val, Item, Goal, Seq, ‵, ◌$◌, use1, Bx, D}
+use Rattle.otel_c.proofs.Steps.{R, B, word, box_typed}
 use base.Fml.{Fml}
 use denote.Struct.Owning.{shape}
 use denote.Struct.Struct.{Struct}
@@ -19,7 +19,7 @@ use Rattle.std.proofs.alloc.Calls.{Fits, token}
 use Rattle.std.specs.Prelude.{IsSome}
 use Rattle.std.specs.declared.option.Option.{Option}
 use Rattle.std.specs.declared.option.Option.TheVariants.{None, Some}
-use Rattle.otel_loose.specs.Kept.{keeps}
+use Rattle.otel_c.specs.Kept.{keeps}
 
 module _ (E : Bx) where
   abbrev pub box_at : Ptr → E.al.row.Denot → X E → D E

@@ -1,7 +1,5 @@
-// SPDX-License-Identifier: Apache-2.0
 //! A box as its raw pointer, so that a struct which C keeps can hold it. A C interface takes the two fields apart,
 //! keeps the pointer as a `*mut u8`, and makes the `Loose` again when it needs the box.
-#![tactic(auto)]
 
 ghost use Rattle.std.specs.Prelude.{◌≡◌};
 ghost use Rattle.std.specs.Box.Ownership.{box_owns};
@@ -10,10 +8,10 @@ use std::alloc::Allocator;
 use std::marker::Model;
 
 /// Owns what the box owned: the value behind the pointer, and the right to free its block.
-pub struct Loose<T, A: Allocator> {
-    pub at: *mut T,
-    pub alloc: A,
-    pub ghost value: { T },
+pub(crate) struct Loose<T, A: Allocator> {
+    pub(crate) at: *mut T,
+    pub(crate) alloc: A,
+    pub(crate) ghost value: { T },
 }
 
 impl<T, A: Allocator> Model for Loose<T, A> {
@@ -21,7 +19,7 @@ impl<T, A: Allocator> Model for Loose<T, A> {
 }
 
 impl<T, A: Allocator> Loose<T, A> {
-    pub fn of(value: Box<T, A>) -> Loose<T, A>
+    pub(crate) fn of(value: Box<T, A>) -> Loose<T, A>
     where
         T: Drop,
         ensures { result.value ≡ value.value }
@@ -30,7 +28,7 @@ impl<T, A: Allocator> Loose<T, A> {
         Loose { at, alloc }
     }
 
-    pub fn into_box(self) -> Box<T, A>
+    pub(crate) fn into_box(self) -> Box<T, A>
         ensures { result.value ≡ self.value }
     {
         let Loose { at, alloc } = self;

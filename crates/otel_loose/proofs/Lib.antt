@@ -1,3 +1,0 @@
--- What owns a box, and the names that the walks cite.
-pub mod Owners
-pub mod Steps
