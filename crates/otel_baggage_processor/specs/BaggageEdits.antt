@@ -2,6 +2,7 @@
 use Rattle.std.specs.Prelude.{◌≡◌, ℕ, ◌+◌, ◌-◌, ◌^◌, ◌⊎◌, Bool, List, ◌++◌, filter, length, map, min}
 use Rattle.opentelemetry.specs.Baggage.{PlainBaggage}
 use Rattle.opentelemetry.specs.Plain.{PlainContext, text}
+pub use Rattle.otel_export.specs.StoredBatches.{counted_up}
 use Rattle.otel_pipeline.specs.SpanHistory.{Edit, PlainSpan, after, edited, set_attribute}
 
 -- what contracts see of the processor: which entries it takes, and how many it left out
@@ -16,10 +17,6 @@ entry_edit key value = set_attribute (record { key = key; value = text value })
 -- the edits that set those entries of a baggage whose keys are taken, in its order
 abbrev pub baggage_edits : (List ℕ → Bool) → PlainBaggage → List Edit
 baggage_edits takes baggage = map (λ e. entry_edit e.key e.value) (filter (λ e. takes e.key) baggage)
-
--- a count that stops at the greatest u64, after so many more
-abbrev pub counted_up : ℕ → ℕ → ℕ
-counted_up before more = min (before + more) (2 ^ 64 - 1)
 
 -- a beginning of these edits was made, and the others were left out and counted
 pub record MakesBeginning (edits : List Edit) (old new : PlainSpan) (count : ℕ) : Type 0 where

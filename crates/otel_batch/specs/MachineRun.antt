@@ -1,7 +1,8 @@
 -- Lists of steps of the batch queue, one after another.
-use Rattle.std.specs.Prelude.{◌≡◌, ℕ, ◌==◌, ◌+◌, ◌^◌, ◌-◌, min, take, drop, length, List, [], ◌∷◌, ◌++◌, slice_get}
+use Rattle.std.specs.Prelude.{◌≡◌, ℕ, ◌==◌, ◌+◌, take, drop, length, List, [], ◌∷◌, ◌++◌, slice_get}
 use Rattle.std.specs.Prelude.{if◌then◌else◌}
 use Rattle.otel_export.specs.PlainSpanData.{PlainSpanData}
+pub use Rattle.otel_export.specs.StoredBatches.{counted_up}
 use Rattle.otel_batch.specs.Slots.{span_held}
 use Rattle.otel_batch.specs.MachineState.{Machine, counts}
 use Rattle.otel_batch.specs.SoundMachine.{IsSound}
@@ -75,7 +76,3 @@ full_sends [] os = 0
 full_sends (x ∷ xs) [] = 0
 full_sends (step.Send p ∷ xs) (outcome.Full ∷ os) = full_sends xs os + 1
 full_sends (x ∷ xs) (o ∷ os) = full_sends xs os
-
--- a count that stops at the greatest u64, after so many more
-abbrev pub counted_up : ℕ → ℕ → ℕ
-counted_up before more = min (before + more) (2 ^ 64 - 1)

@@ -8,10 +8,12 @@ use Rattle.opentelemetry.specs.PlainContexts.{current_span_context, root_cx}
 use Rattle.opentelemetry.specs.PlainSpanBuilder.{PlainSpanBuilder}
 use Rattle.opentelemetry.specs.declared.trace.span_kind.SpanKind.{SpanKind}
 use Rattle.otel_export.specs.declared.error.OTelSdkError.{OTelSdkError}
+use Rattle.otel_resource.specs.Resource.{PlainResource}
 use Rattle.otel_pipeline.specs.Calls.{Calls}
 use Rattle.otel_pipeline.specs.Ending.{EndIsInfallible, Ends}
 use Rattle.otel_pipeline.specs.FirstProcessor.{losses_of_first}
 use Rattle.otel_pipeline.specs.InSpan.{active_in}
+use Rattle.otel_pipeline.specs.Provider.{ProviderState}
 use Rattle.otel_pipeline.specs.SpanEdits.{new_link}
 use Rattle.otel_pipeline.specs.SpanHistory.{Edit, add_link}
 use Rattle.otel_pipeline.specs.StartRequest.{StartRequest, start_request}
@@ -31,6 +33,17 @@ pub record PipelineState (P S G : Type 0) : Type 0 where
   pub spans : OpenedSpans
   pub gathered : List PlainKeyValue
   pub refusals : ℕ
+
+-- a pipeline over a provider, without spans and lines
+abbrev pub new_pipeline : {P S G : Type 0} → ProviderState P S G → PlainResource → List PlainScope
+    → PipelineState P S G
+new_pipeline provider resource scopes = record {
+  flow = record { provider = provider; resource = resource; lines = [] };
+  scopes = scopes;
+  spans = record { entries = []; next_key = 1 };
+  gathered = [];
+  refusals = 0;
+}
 
 -- the context of a start under a parent: that in which the span of its key is active, and for 0 that of a root
 abbrev pub IsContextUnder : OpenedSpans → ℕ → PlainContext → Type 0

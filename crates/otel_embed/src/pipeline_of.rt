@@ -17,6 +17,7 @@ ghost use Rattle.otel_embed.specs.Pipelines.{
   StartsIn,
   Stays,
   asked_start,
+  new_pipeline,
   taken,
 };
 
@@ -107,13 +108,7 @@ impl<P, S, G> PipelineOf<P, S, G> {
         resource: Resource,
         tracers: Vec<SdkTracer>,
     ) -> PipelineOf<P, S, G>
-        ensures { result ≡ record {
-          flow = record { provider = provider; resource = resource; lines = [] };
-          scopes = tracers.items;
-          spans = record { entries = []; next_key = 1 };
-          gathered = [];
-          refusals = 0;
-        } }
+        ensures { result ≡ new_pipeline provider resource tracers.items }
     {
         PipelineOf {
             alloc,

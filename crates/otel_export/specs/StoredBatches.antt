@@ -21,9 +21,13 @@ all_taken stored = record stored { taken = stored.taken ++ stored.batches; batch
 abbrev pub all_stored : StoredBatches → List (List PlainSpanData)
 all_stored stored = stored.taken ++ stored.batches
 
--- one more batch was lost
+-- a count that stops at the greatest u64, after so many more
+abbrev pub counted_up : ℕ → ℕ → ℕ
+counted_up before more = min (before + more) (2 ^ 64 - 1)
+
+-- and after one more
 abbrev pub one_more : ℕ → ℕ
-one_more lost = min (lost + 1) (2 ^ 64 - 1)
+one_more before = counted_up before 1
 
 -- the batches are told until one was lost
 abbrev pub told_unless_lost : ℕ → List (List PlainSpanData) → Option (List (List PlainSpanData))

@@ -4,11 +4,8 @@ use Rattle.std.specs.Prelude.{Option, Some, None, if◌then◌else◌}
 use Rattle.std.specs.List.{join_with_byte, list_all}
 use Rattle.http_header.specs.FieldValue.{FieldValue, is_visible_text}
 use Rattle.opentelemetry.specs.Members.{comma}
+use Rattle.opentelemetry.specs.Tracestate.{is_blank}
 use Rattle.otel_propagation.specs.Traceparent.{traceparent_field}
-
--- a space or a tab
-abbrev pub is_blank : ℕ → Bool
-is_blank b = b == 32 || b == 9
 
 -- no blank stands there
 abbrev pub is_no_blank : Option ℕ → Bool

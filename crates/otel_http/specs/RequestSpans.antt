@@ -7,6 +7,7 @@ use Rattle.opentelemetry.specs.PlainSpanBuilder.{PlainSpanBuilder, named_builder
 use Rattle.opentelemetry.specs.declared.trace.span_kind.SpanKind.{SpanKind}
 use Rattle.opentelemetry.specs.declared.trace.span_kind.SpanKind.TheVariants.{Client, Server}
 use Rattle.otel_export.specs.PlainSpanData.{PlainSpanData}
+pub use Rattle.otel_export.specs.StoredBatches.{one_more}
 use Rattle.otel_pipeline.specs.SpanHistory.{Edit, set_attribute, set_status}
 use Rattle.otel_http.specs.Conventions.{HasClientAttributes, HasServerAttributes, method_name, response_attributes}
 
@@ -34,10 +35,6 @@ attribute_edits first_error status = map set_attribute (response_attributes firs
 -- the status of a span, by that of the response
 abbrev pub status_edits : ℕ → ℕ → List Edit
 status_edits first_error status = if nat_le first_error status then set_status (error []) ∷ [] else []
-
--- one more, up to the greatest u64
-abbrev pub one_more : ℕ → ℕ
-one_more count = min (count + 1) (2 ^ 64 - 1)
 
 -- what is recorded of a request that is served in a context: a server's span, whose parent is the context's span and
 -- whose trace is that one's; in a root's context, of no parent and a trace of its own

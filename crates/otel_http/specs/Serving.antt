@@ -34,6 +34,17 @@ pub record TracedState (V S : Type 0) : Type 0 where
   pub untraced : ℕ
   pub unfinished : ℕ
 
+-- a service that has served nothing yet, of requests of http
+abbrev pub new_traced : {V S : Type 0} → V → S → TracedState V S
+new_traced service scope = record {
+  service = service;
+  scope = scope;
+  is_https = false;
+  keeps_query = false;
+  untraced = 0;
+  unfinished = 0;
+}
+
 -- the scheme of requests whose target names none
 abbrev pub url_scheme : Bool → List ℕ
 url_scheme true = codes "https"

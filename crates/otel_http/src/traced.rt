@@ -4,7 +4,8 @@ ghost use Rattle.std.specs.Prelude.{◌≡◌, false, true, IfOk, IfSome, IsOk, 
 ghost use Rattle.http.specs.Request.{head_of};
 ghost use Rattle.http_server.specs.Response.{IsBlank};
 ghost use Rattle.otel_http.specs.RequestSpans.{IsServerBuilder};
-ghost use Rattle.otel_http.specs.Serving.{ServesIn, ServesInside, ServesOnce, TracesRequest, counted_unless, url_scheme};
+ghost use Rattle.otel_http.specs.Serving.{ServesIn, ServesInside, ServesOnce, TracesRequest};
+ghost use Rattle.otel_http.specs.Serving.{counted_unless, new_traced, url_scheme};
 
 use crate::TracedService;
 use crate::conventions::{method_name, server_attributes};
@@ -53,14 +54,7 @@ impl<V, S> Traced<V, S> {
 
     /// A service whose requests start spans in this scope. They are requests of `http`.
     pub fn new(service: V, scope: S) -> Traced<V, S>
-        ensures { result ≡ record {
-          service = service;
-          scope = scope;
-          is_https = false;
-          keeps_query = false;
-          untraced = 0;
-          unfinished = 0;
-        } }
+        ensures { result ≡ new_traced service scope }
     {
         Traced {
             service,

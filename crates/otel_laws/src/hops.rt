@@ -1,12 +1,7 @@
 //! The law that ties the hops of a consistently sampled trace to the spans of a provider. The function does nothing but
 //! cite a law; its contract is the law, for all values.
 
-ghost use Rattle.std.specs.Prelude.{◌≡◌, ℕ, Some, false};
-ghost use Rattle.opentelemetry.specs.Plain.{PlainSpanContext};
-ghost use Rattle.otel_pipeline.specs.Provider.{ProviderState};
-ghost use Rattle.otel_pipeline.specs.SpanHistory.{SpanHistory, span_of};
-ghost use Rattle.otel_pipeline.specs.StartRequest.{StartRequest};
-ghost use Rattle.otel_pipeline.specs.Starting.{Starts};
+ghost use Rattle.otel_pipeline.specs.Hops.{EachStartBelow};
 ghost use Rattle.otel_probability.specs.Hops.{IsHop};
 
 use otel_pipeline::laws::starts_below_spans_go_by_the_answer;
@@ -18,11 +13,8 @@ use otel_sampling::trace::{GivesIds, ShouldSample};
 /// and has an active span, is a hop from that one. So over any number of such starts `children_keep_the_threshold`
 /// says that decision and threshold stay those of the root.
 pub fn starts_under_consistent_parents_make_hops<P: SpanProcessor, G: GivesIds>()
-    ensures { (old new : ProviderState P ℕ G) (request : StartRequest) (history : SpanHistory)
-        (parent : PlainSpanContext)
-        → old.is_shut ≡ false → request.cx.telemetry_suppressed ≡ false → request.cx.span_context ≡ Some parent
-        → Starts P.SpanProcessor ⟦<ConsistentParentBased as ShouldSample>⟧ G.GivesIds old request history new
-        → IsHop parent (span_of history).span_context }
+    ensures { EachStartBelow P.SpanProcessor ⟦<ConsistentParentBased as ShouldSample>⟧ G.GivesIds
+        (λ _ _ parent child. IsHop parent child) }
 {
     starts_below_spans_go_by_the_answer::<P, ConsistentParentBased, G>();
 }

@@ -15,7 +15,7 @@ use Rattle.otel_sampling.specs.declared.trace.sampler.ShouldSample as sampling
 use Rattle.opentelemetry.specs.Tracestate.{ArePairs}
 use Rattle.otel_propagation.specs.Traceparent.{IsSpanContext, IsValid, remote_copy}
 use Rattle.otel_propagation.proofs.TraceparentLemmas.{injected_carries}
-use Rattle.otel_pipeline.specs.Hops.{AreDrawnHops, AreHops, GoesByParent, GoesByParents, IsAnsweredChild, IsChild, IsDrawnChild, IsPassedOn, IsReceived}
+use Rattle.otel_pipeline.specs.Hops.{AreDrawnHops, AreHops, EachStartBelow, GoesByParent, IsAnsweredChild, IsChild, IsDrawnChild, IsPassedOn, IsReceived}
 use Rattle.otel_pipeline.specs.Provider.{unstarted_context, ProviderState}
 use Rattle.otel_pipeline.specs.SpanHistory.{SpanHistory, SpanStart, over, span_of}
 use Rattle.otel_pipeline.specs.StartRequest.{StartRequest, start_flags, start_moment, start_question, start_span_context}
@@ -126,12 +126,10 @@ module _ {P S G : Type 0} (calls : Ghosts P) (sampler : sampling.Ghosts S) (ids 
       subst (λ (b : Bool). MatchBool b ((history ≡ over (unstarted_context old request.cx) old.span_limits) × (new ≡ old)) (StartsOpen calls sampler ids old request history new)) runs starts
 
   -- a start below the active span goes by what the sampler answers
-  pub answered_under : (old new : ProviderState P S G) (request : StartRequest) (history : SpanHistory) (parent : PlainSpanContext)
-      → old.is_shut ≡ false → request.cx.telemetry_suppressed ≡ false → request.cx.span_context ≡ Some parent
-      → Starts calls sampler ids old request history new
-      → IsAnsweredChild parent (sampler.answer old.sampler (start_question request.cx parent.trace_id request.builder)) (span_of history).span_context
-  answered_under old new request history parent is_open unsuppressed active starts =
-      let started = opens old new request history is_open unsuppressed starts in
+  pub answered_under : EachStartBelow calls sampler ids (λ s request parent child. IsAnsweredChild parent (sampler.answer s (start_question request.cx parent.trace_id request.builder)) child)
+  answered_under old new request history parent below =
+      let started = opens old new request history below.is_open below.is_unsuppressed below.starts in
+      let active = below.is_active in
       let is_parent : current_span_context request.cx ≡ parent = ap (λ (a : Option PlainSpanContext). unwrap_or a empty_span_context) active in
       let drawn : DrawsTraceId ids (Some parent) (start_moment request.builder request.now) started.draws.between started.trace_id new.id_generator =
       subst (λ (a : Option PlainSpanContext). DrawsTraceId ids a (start_moment request.builder request.now) started.draws.between started.trace_id new.id_generator) active started.draws.draws_trace_id in
@@ -143,33 +141,18 @@ module _ {P S G : Type 0} (calls : Ghosts P) (sampler : sampling.Ghosts S) (ids 
       )
 
   -- a start under a sampler that goes by the active span makes a child of that one
-  pub child_under : (old new : ProviderState P S G) (request : StartRequest) (history : SpanHistory) (parent : PlainSpanContext)
-      → GoesByParent sampler old.sampler parent → old.is_shut ≡ false → request.cx.telemetry_suppressed ≡ false → request.cx.span_context ≡ Some parent
-      → Starts calls sampler ids old request history new → IsChild parent (span_of history).span_context
-  child_under old new request history parent by_parent is_open unsuppressed active starts =
+  pub child_under : EachStartBelow calls sampler ids (λ s _ parent child. GoesByParent sampler s parent → IsChild parent child)
+  child_under old new request history parent below by_parent =
       subst (λ (answer : PlainSamplingResult). IsAnsweredChild parent answer (span_of history).span_context)
-      (by_parent (start_question request.cx parent.trace_id request.builder) active)
-      (answered_under old new request history parent is_open unsuppressed active starts)
+      (by_parent (start_question request.cx parent.trace_id request.builder) below.is_active)
+      (answered_under old new request history parent below)
 
   -- and a hop, where the span id that it drew is not zero
-  pub hop_under : (old new : ProviderState P S G) (request : StartRequest) (history : SpanHistory) (parent : PlainSpanContext)
-      → GoesByParent sampler old.sampler parent → old.is_shut ≡ false → request.cx.telemetry_suppressed ≡ false → request.cx.span_context ≡ Some parent
-      → Starts calls sampler ids old request history new → 0 < (span_of history).span_context.span_id → IsDrawnChild parent (span_of history).span_context
-  hop_under old new request history parent by_parent is_open unsuppressed active starts drawn =
-      let started = opens old new request history is_open unsuppressed starts in
+  pub hop_under : EachStartBelow calls sampler ids (λ s _ parent child. GoesByParent sampler s parent → 0 < child.span_id → IsDrawnChild parent child)
+  hop_under old new request history parent below by_parent drawn =
+      let started = opens old new request history below.is_open below.is_unsuppressed below.starts in
       let context = decided_context calls started.answer.decision request.cx _ old.processors new.processors history started.decided in
       record {
-        is_child = child_under old new request history parent by_parent is_open unsuppressed active starts;
+        is_child = child_under old new request history parent below by_parent;
         is_span_id = (drawn, subst (λ (n : ℕ). n < 2 ^ 64) (sym (ap (λ (c : PlainSpanContext). c.span_id) context)) started.draws.fits);
       }
-
-  -- the same under a sampler that goes by parents
-  pub child_of_start : (old new : ProviderState P S G) (request : StartRequest) (history : SpanHistory) (parent : PlainSpanContext)
-      → GoesByParents sampler old.sampler → old.is_shut ≡ false → request.cx.telemetry_suppressed ≡ false → request.cx.span_context ≡ Some parent
-      → Starts calls sampler ids old request history new → IsChild parent (span_of history).span_context
-  child_of_start old new request history parent by_parents = child_under old new request history parent (λ question. by_parents question parent)
-
-  pub hop_of_start : (old new : ProviderState P S G) (request : StartRequest) (history : SpanHistory) (parent : PlainSpanContext)
-      → GoesByParents sampler old.sampler → old.is_shut ≡ false → request.cx.telemetry_suppressed ≡ false → request.cx.span_context ≡ Some parent
-      → Starts calls sampler ids old request history new → 0 < (span_of history).span_context.span_id → IsDrawnChild parent (span_of history).span_context
-  hop_of_start old new request history parent by_parents = hop_under old new request history parent (λ question. by_parents question parent)

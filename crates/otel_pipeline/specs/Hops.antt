@@ -1,12 +1,17 @@
 -- How a trace goes on from its root, one span context after another.
-use Rattle.std.specs.Prelude.{◌≡◌, ◌⊎◌, ℕ, ◌<◌, ◌^◌, List, [], ◌∷◌, Some, Ok}
+use Rattle.std.specs.Prelude.{◌≡◌, ◌⊎◌, ℕ, ◌<◌, ◌^◌, List, [], ◌∷◌, Some, Ok, false}
 use Rattle.opentelemetry.specs.Carrier.{Texts}
 use Rattle.opentelemetry.specs.Plain.{PlainContext, PlainSpanContext}
 use Rattle.otel_sampling.specs.Sampler.{active_in, built_in, parent_decision}
 use Rattle.otel_sampling.specs.Sampling.{PlainSamplingResult, SamplingQuestion}
+use Rattle.otel_sampling.specs.declared.trace.id_generator.GivesIds as drawing
 use Rattle.otel_sampling.specs.declared.trace.sampler.ShouldSample as sampling
 use Rattle.otel_propagation.specs.Traceparent.{ExtractsTraceContext, InjectsTraceContext, IsSpanContext, IsValid}
-use Rattle.otel_pipeline.specs.StartRequest.{start_span_context}
+use Rattle.otel_pipeline.specs.Provider.{ProviderState}
+use Rattle.otel_pipeline.specs.SpanHistory.{SpanHistory, span_of}
+use Rattle.otel_pipeline.specs.StartRequest.{StartRequest, start_span_context}
+use Rattle.otel_pipeline.specs.Starting.{Starts}
+use Rattle.otel_pipeline.specs.declared.trace.span_processor.SpanProcessor.{Ghosts}
 
 -- a span context is that of a span that starts below a parent, as a sampler answered: its trace id is the parent's, its
 -- span id a new one
@@ -67,3 +72,18 @@ AreHops before (next ∷ more) = (IsChild before next ⊎ IsPassedOn before next
 abbrev pub AreDrawnHops : PlainSpanContext → List PlainSpanContext → Type 0
 AreDrawnHops before [] = Unit {0}
 AreDrawnHops before (next ∷ more) = (IsDrawnChild before next ⊎ IsReceived before next) × AreDrawnHops next more
+
+module _ {P S G : Type 0} (calls : Ghosts P) (sampler : sampling.Ghosts S) (ids : drawing.Ghosts G) where
+  -- a span started at an open provider, in a context that is not suppressed and in which this parent is active
+  pub record StartsBelow (parent : PlainSpanContext) (old : ProviderState P S G) (request : StartRequest)
+      (history : SpanHistory) (new : ProviderState P S G) : Type 0 where
+    pub is_open : old.is_shut ≡ false
+    pub is_unsuppressed : request.cx.telemetry_suppressed ≡ false
+    pub is_active : request.cx.span_context ≡ Some parent
+    pub starts : Starts calls sampler ids old request history new
+
+  -- of each such start this is so, of the sampler, of what was asked for, of the parent and of the child
+  abbrev pub EachStartBelow : (S → StartRequest → PlainSpanContext → PlainSpanContext → Type 0) → Type 0
+  EachStartBelow Makes = (old new : ProviderState P S G) (request : StartRequest) (history : SpanHistory)
+      (parent : PlainSpanContext) → StartsBelow parent old request history new
+      → Makes old.sampler request parent (span_of history).span_context

@@ -1,6 +1,6 @@
 -- What a provider is made of, step by step, and what making it does (OpenTelemetry specification, "TracerProvider
 -- Creation").
-use Rattle.std.specs.Prelude.{◌≡◌, ◌<◌, ℕ, Bool, true, false, List, [], Result, MatchBool}
+use Rattle.std.specs.Prelude.{◌≡◌, ◌<◌, ◌++◌, ◌∷◌, ℕ, Bool, true, false, List, [], Result, MatchBool}
 use Rattle.std.specs.declared.alloc.AllocError.{AllocError}
 use Rattle.otel_sampling.specs.Config.{IsConfigOf}
 use Rattle.otel_sampling.specs.ConfigStrings.{PlainBatchStrings, PlainConfigStrings, is_true}
@@ -31,6 +31,21 @@ pub record BeginsBy {P C G : Type 0} (strings : PlainConfigStrings) (seed : ℕ)
   pub has_given_resource : builder.has_given_resource ≡ false
   pub is_disabled : builder.is_disabled ≡ is_true strings.sdk_disabled
 
+-- a builder of a configuration, without processors
+abbrev pub first_builder : {P S G : Type 0} → ConfigOf S G → PlainBatchStrings → Bool → BuilderState P S G
+first_builder config batch_strings is_disabled = record {
+  processors = [];
+  config = config;
+  batch_strings = batch_strings;
+  has_given_resource = false;
+  is_disabled = is_disabled;
+}
+
+-- a builder has one more processor, of which this is so
+abbrev pub AddsProcessor : {P S G : Type 0} → (P → Type 0) → BuilderState P S G → BuilderState P S G → Type 0
+AddsProcessor {P} IsOne builder built =
+    (added : P) × IsOne added × (built ≡ record builder { processors = builder.processors ++ added ∷ [] })
+
 -- a builder of other limits
 abbrev pub with_limits : {P S G : Type 0} → BuilderState P S G → SpanLimits → BuilderState P S G
 with_limits builder limits = record builder { config = record builder.config { span_limits = limits } }
@@ -41,14 +56,15 @@ abbrev pub resource_with : Bool → PlainResource → PlainResource → PlainRes
 resource_with false configured resource = resource
 resource_with true given resource = merge given resource
 
+-- a builder of this resource, which was handed in
+abbrev pub given_resource : {P S G : Type 0} → BuilderState P S G → PlainResource → BuilderState P S G
+given_resource builder resource =
+    record builder { config = record builder.config { resource = resource }; has_given_resource = true }
+
 -- a builder to which a resource was handed in
 abbrev pub with_resource : {P S G : Type 0} → BuilderState P S G → PlainResource → BuilderState P S G
-with_resource builder resource = record builder {
-  config = record builder.config {
-    resource = resource_with builder.has_given_resource builder.config.resource resource;
-  };
-  has_given_resource = true;
-}
+with_resource builder resource =
+    given_resource builder (resource_with builder.has_given_resource builder.config.resource resource)
 
 -- the provider over these processors that a configuration makes, which is open
 abbrev pub open_provider : {P S G : Type 0} → List P → ConfigOf S G → ProviderState P S G

@@ -13,15 +13,15 @@ ghost use Rattle.otel_propagation.specs.CompositeList.{ExtractsEach, InjectsEach
 ghost use Rattle.otel_propagation.specs.PropagatorKinds.{AreBoth, ExtractsByKind, InjectsByKind};
 ghost use Rattle.otel_propagation.specs.Traceparent.{IsSpanContext, IsValid};
 ghost use Rattle.otel_propagation.specs.declared.propagation.propagator_kinds.PropagatorOf.{PropagatorOf};
-ghost use Rattle.otel_pipeline.specs.Hops.{AreDrawnHops, AreHops, GoesByParents, GoesByValidParents, IsChild};
-ghost use Rattle.otel_pipeline.specs.Hops.{IsAnsweredChild, IsDrawnChild, IsReceived};
+ghost use Rattle.otel_pipeline.specs.Hops.{AreDrawnHops, AreHops, EachStartBelow, GoesByParents, GoesByValidParents};
+ghost use Rattle.otel_pipeline.specs.Hops.{IsAnsweredChild, IsChild, IsDrawnChild, IsReceived};
 ghost use Rattle.otel_pipeline.specs.Provider.{ProviderState};
 ghost use Rattle.otel_pipeline.specs.Deliveries.{EachFollows};
 ghost use Rattle.otel_pipeline.specs.Ending.{Delivers, Ends, deliveries};
-ghost use Rattle.otel_pipeline.specs.SpanHistory.{Edit, HasHistory, PlainSpan, SpanHistory, SpanStart};
-ghost use Rattle.otel_pipeline.specs.SpanHistory.{after, data_of, ended, recording, span_of};
+ghost use Rattle.otel_pipeline.specs.SpanHistory.{Edit, HasHistory, PlainSpan, SpanStart};
+ghost use Rattle.otel_pipeline.specs.SpanHistory.{after, data_of, ended, recording};
 ghost use Rattle.otel_pipeline.specs.StartRequest.{StartRequest, start_question};
-ghost use Rattle.otel_pipeline.specs.Starting.{AnswersStart, Starts};
+ghost use Rattle.otel_pipeline.specs.Starting.{AnswersStart};
 ghost use Rattle.otel_pipeline.specs.ValueLength.{first_chars};
 ghost use Rattle.otel_sampling.specs.declared.trace.parent_based.ParentBased.{ParentBased};
 ghost use Rattle.otel_sampling.specs.declared.trace.sampler.SamplerOf.{SamplerOf};
@@ -97,35 +97,21 @@ pub fn parent_based_goes_by_parents<C: ShouldSample>()
 /// A span that starts at an open provider, in a context that is not suppressed and has an active span, goes on that
 /// one's trace as the sampler answers.
 pub fn starts_below_spans_go_by_the_answer<P: SpanProcessor, S: ShouldSample, G: GivesIds>()
-    ensures { (old new : ProviderState P S G) (request : StartRequest) (history : SpanHistory)
-        (parent : PlainSpanContext)
-        → old.is_shut ≡ false → request.cx.telemetry_suppressed ≡ false → request.cx.span_context ≡ Some parent
-        → Starts P.SpanProcessor S.ShouldSample G.GivesIds old request history new
-        → IsAnsweredChild parent
-        (S.answer old.sampler (start_question request.cx parent.trace_id request.builder))
-        (span_of history).span_context }
+    ensures { EachStartBelow P.SpanProcessor S.ShouldSample G.GivesIds (λ sampler request parent child.
+        IsAnsweredChild parent (S.answer sampler (start_question request.cx parent.trace_id request.builder)) child) }
 {}
 
 /// A span that starts at an open provider under a sampler that goes by parents, in a context that is not suppressed and
 /// has an active span, is a child of that span.
 pub fn starts_under_parents_make_children<P: SpanProcessor, S: ShouldSample, G: GivesIds>()
-    ensures { (old new : ProviderState P S G) (request : StartRequest) (history : SpanHistory)
-        (parent : PlainSpanContext)
-        → GoesByParents S.ShouldSample old.sampler → old.is_shut ≡ false
-        → request.cx.telemetry_suppressed ≡ false → request.cx.span_context ≡ Some parent
-        → Starts P.SpanProcessor S.ShouldSample G.GivesIds old request history new
-        → IsChild parent (span_of history).span_context }
+    ensures { EachStartBelow P.SpanProcessor S.ShouldSample G.GivesIds (λ sampler _ parent child.
+        GoesByParents S.ShouldSample sampler → IsChild parent child) }
 {}
 
 /// Such a start is a hop of the trace, where the span id that it drew is not zero.
 pub fn starts_under_parents_make_hops<P: SpanProcessor, S: ShouldSample, G: GivesIds>()
-    ensures { (old new : ProviderState P S G) (request : StartRequest) (history : SpanHistory)
-        (parent : PlainSpanContext)
-        → GoesByParents S.ShouldSample old.sampler → old.is_shut ≡ false
-        → request.cx.telemetry_suppressed ≡ false → request.cx.span_context ≡ Some parent
-        → Starts P.SpanProcessor S.ShouldSample G.GivesIds old request history new
-        → 0 < (span_of history).span_context.span_id
-        → IsDrawnChild parent (span_of history).span_context }
+    ensures { EachStartBelow P.SpanProcessor S.ShouldSample G.GivesIds (λ sampler _ parent child.
+        GoesByParents S.ShouldSample sampler → 0 < child.span_id → IsDrawnChild parent child) }
 {}
 
 /// A `ParentBased` with delegates goes by valid parents where the delegates decide as the parents did, as the
@@ -138,19 +124,10 @@ pub fn parent_based_with_delegates_goes_by_parents<S: ShouldSample>()
 /// Under a sampler that goes by valid parents, such a start below a valid span makes a child, and a hop where the span
 /// id that it drew is not zero.
 pub fn starts_under_valid_parents_make_hops<P: SpanProcessor, S: ShouldSample, G: GivesIds>()
-    ensures child { (old new : ProviderState P S G) (request : StartRequest) (history : SpanHistory)
-        (parent : PlainSpanContext)
-        → GoesByValidParents S.ShouldSample old.sampler → IsValid parent → old.is_shut ≡ false
-        → request.cx.telemetry_suppressed ≡ false → request.cx.span_context ≡ Some parent
-        → Starts P.SpanProcessor S.ShouldSample G.GivesIds old request history new
-        → IsChild parent (span_of history).span_context }
-    ensures hop { (old new : ProviderState P S G) (request : StartRequest) (history : SpanHistory)
-        (parent : PlainSpanContext)
-        → GoesByValidParents S.ShouldSample old.sampler → IsValid parent → old.is_shut ≡ false
-        → request.cx.telemetry_suppressed ≡ false → request.cx.span_context ≡ Some parent
-        → Starts P.SpanProcessor S.ShouldSample G.GivesIds old request history new
-        → 0 < (span_of history).span_context.span_id
-        → IsDrawnChild parent (span_of history).span_context }
+    ensures child { EachStartBelow P.SpanProcessor S.ShouldSample G.GivesIds (λ sampler _ parent child.
+        GoesByValidParents S.ShouldSample sampler → IsValid parent → IsChild parent child) }
+    ensures hop { EachStartBelow P.SpanProcessor S.ShouldSample G.GivesIds (λ sampler _ parent child.
+        GoesByValidParents S.ShouldSample sampler → IsValid parent → 0 < child.span_id → IsDrawnChild parent child) }
 {}
 
 /// What a list of W3C's two propagators sends, in either order, and another such list receives, is received through

@@ -6,6 +6,7 @@ use Rattle.std.specs.Prelude.{Option, None, Some, IfSome}
 use Rattle.opentelemetry.specs.Carrier.{Texts}
 use Rattle.opentelemetry.specs.Hex.{hex_text, IsHexText}
 use Rattle.opentelemetry.specs.Plain.{PlainSpanContext}
+pub use Rattle.otel_propagation.specs.Traceparent.{hyphen}
 use Rattle.otel_propagators.specs.declared.b3.sampling_state.SamplingState.{SamplingState}
 use Rattle.otel_propagators.specs.declared.b3.sampling_state.SamplingState.TheVariants.{Accept, Deny, Defer, Debug}
 
@@ -24,10 +25,6 @@ sampled_field = codes "x-b3-sampled"
 
 abbrev pub flags_field : List ℕ
 flags_field = codes "x-b3-flags"
-
--- a hyphen parts the fields
-abbrev pub hyphen : ℕ
-hyphen = 45
 
 -- the trace flags that have this sampling state: debug implies that the span is sampled
 abbrev pub flags_of : SamplingState → ℕ

@@ -1,12 +1,12 @@
 -- Spans that work made in spans, and when each of them was.
-use Rattle.std.specs.Prelude.{◌≡◌, ◌≤◌, ℕ, Bool, Some, None}
+use Rattle.std.specs.Prelude.{◌≡◌, ◌⊎◌, ◌≤◌, ℕ, Bool, Option, Some, None}
 use Rattle.opentelemetry.specs.PlainSpanBuilder.{PlainSpanBuilder}
 use Rattle.otel_sampling.specs.declared.trace.sampler.ShouldSample as sampling
 use Rattle.otel_sampling.specs.declared.trace.id_generator.GivesIds as drawing
 use Rattle.otel_pipeline.specs.SpanHistory.{PlainSpan}
 use Rattle.otel_pipeline.specs.declared.trace.span_processor.SpanProcessor.{Ghosts}
 use Rattle.otel_scope.specs.Currents.{settled}
-use Rattle.otel_scope.specs.Tracings.{Ends, Starts}
+use Rattle.otel_scope.specs.Tracings.{Ends, Enters, Leaves, Starts}
 use Rattle.otel_scope.specs.declared.current.Current.{Current}
 use Rattle.otel_scope.specs.declared.tracing.Tracing.{Tracing}
 
@@ -43,20 +43,39 @@ module _ {P S G C T : Type 0} (calls : Ghosts P) (sampler : sampling.Ghosts S) (
     pub ends : Ends calls tells old (settled failed span) outer new
     pub told : ends.end ≡ end
 
-  -- some time goes by, a span starts, the work in it is done, and it ends; then other work is done
-  pub record MakesOne (last : C → ℕ) (start end : ℕ) (inner more : Tracing P S G C T → Tracing P S G C T → Type 0)
-      (old new : Tracing P S G C T) : Type 0 where
-    pub before : Tracing P S G C T
-    pub waits : last old.clock ≤ last before.clock
-    pub entered : Tracing P S G C T
-    pub starts : StartsAt start before entered
-    pub left : Tracing P S G C T
-    pub works : inner entered left
-    pub after : Tracing P S G C T
-    pub ends : EndsAt end left after
-    pub goes_on : more after new
+  module _ (last : C → ℕ) where
+    -- some time goes by, a span starts, the work in it is done, and it ends; then other work is done
+    pub record MakesOne (start end : ℕ) (inner more : Tracing P S G C T → Tracing P S G C T → Type 0)
+        (old new : Tracing P S G C T) : Type 0 where
+      pub before : Tracing P S G C T
+      pub waits : last old.clock ≤ last before.clock
+      pub entered : Tracing P S G C T
+      pub starts : StartsAt start before entered
+      pub left : Tracing P S G C T
+      pub works : inner entered left
+      pub after : Tracing P S G C T
+      pub ends : EndsAt end left after
+      pub goes_on : more after new
 
-  -- work makes these spans, each by a start and an end at the scope, and whatever else it does leaves no earlier moment
-  abbrev pub Makes : (C → ℕ) → SpansMade → Tracing P S G C T → Tracing P S G C T → Type 0
-  Makes last none old new = last old.clock ≤ last new.clock
-  Makes last (made start end inner more) old new = MakesOne last start end (Makes last inner) (Makes last more) old new
+    -- work makes these spans, each by a start and an end at the scope, and whatever else it does leaves no earlier
+    -- moment
+    abbrev pub Makes : SpansMade → Tracing P S G C T → Tracing P S G C T → Type 0
+    Makes none old new = last old.clock ≤ last new.clock
+    Makes (made start end inner more) old new = MakesOne start end (Makes inner) (Makes more) old new
+
+    -- a start of a span that was given no moment of its own was asked for, then work made these spans, and what was
+    -- then current ended
+    pub record WorksAround (within : SpansMade) (old new : Tracing P S G C T) : Type 0 where
+      pub asked : Option PlainSpanBuilder
+      pub is_now : (builder : PlainSpanBuilder) → asked ≡ Some builder → builder.start_time ≡ None
+      pub entered : Tracing P S G C T
+      pub enters : Enters calls sampler ids tells old asked entered
+      pub left : Tracing P S G C T
+      pub works : Makes within entered left
+      pub failed : Bool
+      pub leaves : Leaves calls tells left old.current failed new
+
+    -- a span was made, in which these were, or these alone
+    abbrev pub MakesAround : SpansMade → Tracing P S G C T → Tracing P S G C T → Type 0
+    MakesAround within old new =
+        ((start end : ℕ) × Makes (made start end within none) old new) ⊎ Makes within old new

@@ -76,26 +76,27 @@ module _ {S F T E : Type 0} (current : S → Current) (enters : S → Option Pla
     pub free : is_ready → asked ≡ Some begun
     pub works : Works old asked work answer new
 
-  -- the same in another context; afterwards the current one is what it was
-  pub record WorksIn (with_current : S → Current → S) (cx : PlainContext) (old : S) (asked : Option PlainSpanBuilder)
-      (work : F) (answer : Result T E) (new : S) : Type 0 where
-    pub placed : S
-    pub places : Becomes current with_current (record (current old) { cx = cx }) old placed
-    pub done : S
-    pub works : Works placed asked work answer done
-    pub back : new ≡ with_current done (current old)
+  module _ (with_current : S → Current → S) where
+    -- the same in another context; afterwards the current one is what it was
+    pub record WorksIn (cx : PlainContext) (old : S) (asked : Option PlainSpanBuilder) (work : F)
+        (answer : Result T E) (new : S) : Type 0 where
+      pub placed : S
+      pub places : Becomes current with_current (record (current old) { cx = cx }) old placed
+      pub done : S
+      pub works : Works placed asked work answer done
+      pub back : new ≡ with_current done (current old)
 
-  -- work in a span of this beginning, in the context that headers give, read in the current one
-  pub record Continues (with_current : S → Current → S) (reads : PlainContext → PlainContext → Type 0)
-      (begun : PlainSpanBuilder) (old : S) (work : F) (answer : Result T E) (new : S) : Type 0 where
-    pub caller : PlainContext
-    pub is_read : reads (current old).cx caller
-    pub asked : Option PlainSpanBuilder
-    pub asks : AsksFor begun asked
-    pub works : WorksIn with_current caller old asked work answer new
+    -- work in a span of this beginning, in the context that headers give, read in the current one
+    pub record Continues (reads : PlainContext → PlainContext → Type 0) (begun : PlainSpanBuilder) (old : S)
+        (work : F) (answer : Result T E) (new : S) : Type 0 where
+      pub caller : PlainContext
+      pub is_read : reads (current old).cx caller
+      pub asked : Option PlainSpanBuilder
+      pub asks : AsksFor begun asked
+      pub works : WorksIn caller old asked work answer new
 
-  -- the same, or, where there was no memory to read the headers, work for which no span is asked
-  abbrev pub WorksBelow : (S → Current → S) → (PlainContext → PlainContext → Type 0) → PlainSpanBuilder → S → F
-      → Result T E → S → Type 0
-  WorksBelow with_current reads begun old work answer new =
-      Continues with_current reads begun old work answer new ⊎ Works old None work answer new
+    -- the same, or, where there was no memory to read the headers, work for which no span is asked
+    abbrev pub WorksBelow : (PlainContext → PlainContext → Type 0) → PlainSpanBuilder → S → F → Result T E → S
+        → Type 0
+    WorksBelow reads begun old work answer new =
+        Continues reads begun old work answer new ⊎ Works old None work answer new

@@ -1,10 +1,7 @@
 //! The law of spans within spans. Each function does nothing; its contract is the law.
 
-ghost use Rattle.std.specs.Prelude.{◌≡◌, ◌⊎◌, ◌≤◌, ℕ, Bool, None, Option, Some};
-ghost use Rattle.opentelemetry.specs.PlainSpanBuilder.{PlainSpanBuilder};
-ghost use Rattle.otel_scope.specs.Nesting.{GoesForward, LieWithin, Makes, SpansMade};
-ghost use Rattle.otel_scope.specs.Nesting.SpansMade.{made, none};
-ghost use Rattle.otel_scope.specs.Tracings.{Enters, Leaves};
+ghost use Rattle.std.specs.Prelude.{ℕ};
+ghost use Rattle.otel_scope.specs.Nesting.{GoesForward, LieWithin, Makes, MakesAround, SpansMade, WorksAround};
 ghost use Rattle.otel_scope.specs.declared.tracing.Tracing.{Tracing};
 
 use otel_pipeline::trace::{Now, SpanProcessor};
@@ -21,13 +18,7 @@ pub fn spans_nest<P: SpanProcessor, S: ShouldSample, G: GivesIds, C: Now, T>()
 /// Work in a span, which is a start, the work and an end, makes that span, and in it the spans that the work makes; those
 /// alone where the span was lost, or is not current any more when the work has ended.
 pub fn works_make_spans<P: SpanProcessor, S: ShouldSample, G: GivesIds, C: Now, T>()
-    ensures { (last : C → ℕ) (old entered left new : Tracing P S G C T) (asked : Option PlainSpanBuilder)
-        (failed : Bool) (within : SpansMade) → GoesForward C.tells last
-        → ((builder : PlainSpanBuilder) → asked ≡ Some builder → builder.start_time ≡ None)
-        → Enters P.SpanProcessor S.ShouldSample G.GivesIds C.tells old asked entered
-        → Makes P.SpanProcessor S.ShouldSample G.GivesIds C.tells last within entered left
-        → Leaves P.SpanProcessor C.tells left old.current failed new
-        → ((start end : ℕ) × Makes P.SpanProcessor S.ShouldSample G.GivesIds C.tells last
-        (made start end within none) old new)
-        ⊎ Makes P.SpanProcessor S.ShouldSample G.GivesIds C.tells last within old new }
+    ensures { (last : C → ℕ) (within : SpansMade) (old new : Tracing P S G C T) → GoesForward C.tells last
+        → WorksAround P.SpanProcessor S.ShouldSample G.GivesIds C.tells last within old new
+        → MakesAround P.SpanProcessor S.ShouldSample G.GivesIds C.tells last within old new }
 {}

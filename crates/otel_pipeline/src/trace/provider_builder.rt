@@ -81,13 +81,7 @@ impl<P, S, G> ProviderOf<P, S, G> {
         batch_strings: BatchStrings,
         is_disabled: bool,
     ) -> ProviderBuilderOf<P, S, G>
-        ensures { result ≡ record {
-          processors = [];
-          config = config;
-          batch_strings = batch_strings;
-          has_given_resource = false;
-          is_disabled = is_disabled;
-        } }
+        ensures { result ≡ building.first_builder config batch_strings is_disabled }
     {
         ProviderBuilderOf {
             processors: Vec::new(alloc),
@@ -113,9 +107,7 @@ impl<P: FromExporter, S, G> ProviderBuilderOf<P, S, G> {
     /// Adds a batch processor over this exporter, which the builder's strings configure. Its queue has no thread: a
     /// service that calls neither `force_flush` nor `run_processors` in time loses spans once it is full.
     pub fn with_batch_exporter(self, exporter: P::Exporter) -> Result<Self, AllocFailed<Self>>
-        ensures { MatchResult result
-            (λ built. (batch : _) × P.batch_of exporter self.batch_strings batch
-            × (built ≡ record self { processors = self.processors ++ batch ∷ [] }))
+        ensures { MatchResult result (building.AddsProcessor (P.batch_of exporter self.batch_strings) self)
             (λ failed. failed.value ≡ self) }
     {
         match P::batch(self.allocator(), exporter, &self.batch_strings) {
@@ -127,9 +119,7 @@ impl<P: FromExporter, S, G> ProviderBuilderOf<P, S, G> {
     /// Adds a batch processor that exports a full batch where the span ends that fills it: the one for a service that
     /// calls nothing but the ends of its spans. The builder's strings configure it.
     pub fn with_eager_batch_exporter(self, exporter: P::Exporter) -> Result<Self, AllocFailed<Self>>
-        ensures { MatchResult result
-            (λ built. (batch : _) × P.eager_batch_of exporter self.batch_strings batch
-            × (built ≡ record self { processors = self.processors ++ batch ∷ [] }))
+        ensures { MatchResult result (building.AddsProcessor (P.eager_batch_of exporter self.batch_strings) self)
             (λ failed. failed.value ≡ self) }
     {
         match P::eager_batch(self.allocator(), exporter, &self.batch_strings) {
@@ -241,10 +231,7 @@ impl<P, S, G> ProviderBuilderOf<P, S, G> {
 
     /// The builder with this resource, which was handed in or merged of those that were.
     fn with_given_resource(self, resource: Resource) -> Self
-        ensures { result ≡ record self {
-          config = record self.config { resource = resource };
-          has_given_resource = true;
-        } }
+        ensures { result ≡ building.given_resource self resource }
     {
         let config = self.config;
         let config = ConfigOf { resource, ..config };

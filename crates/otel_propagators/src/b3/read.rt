@@ -18,9 +18,7 @@ use opentelemetry::{SpanId, TraceId};
 
 /// The span context that a carrier's headers say: the single one first, then the many.
 pub fn read_span<X: Extractor>(extractor: &X) -> Option<SpanContext>
-    ensures { MatchOption result
-        ((c : PlainSpanContext) → ¬ (SaysSpan (X.reads extractor.now) c))
-        (λ c. SaysSpan (X.reads extractor.now) c) }
+    ensures { IsFound (SaysSpan (X.reads extractor.now)) result }
 {
     match read_single(extractor.get(Field::Single.name()).unwrap_or("")) {
         Some(span_context) => Some(span_context),
@@ -30,7 +28,7 @@ pub fn read_span<X: Extractor>(extractor: &X) -> Option<SpanContext>
 
 /// The span context that the single header says.
 fn read_single(text: &str) -> Option<SpanContext>
-    ensures { MatchOption result ((c : PlainSpanContext) → ¬ (IsSingle text.now c)) (λ c. IsSingle text.now c) }
+    ensures { IsFound (IsSingle text.now) result }
 {
     let (front, after) = cut(text);
     let after = after?;
@@ -43,9 +41,7 @@ fn read_single(text: &str) -> Option<SpanContext>
 
 /// The span context that the many headers say.
 fn read_many<X: Extractor>(extractor: &X) -> Option<SpanContext>
-    ensures { MatchOption result
-        ((c : PlainSpanContext) → ¬ (IsMany (X.reads extractor.now) c))
-        (λ c. IsMany (X.reads extractor.now) c) }
+    ensures { IsFound (IsMany (X.reads extractor.now)) result }
 {
     let trace_text = extractor.get(Field::TraceId.name())?;
     let span_text = extractor.get(Field::SpanId.name())?;
@@ -72,7 +68,7 @@ fn cut(text: &str) -> (&str, Option<&str>)
 
 /// The trace id that a text of 32 or 16 digits says.
 fn read_trace_id(text: &str) -> Option<TraceId>
-    ensures { MatchOption result ((id : ℕ) → ¬ (IsTraceId text.now id)) (λ id. IsTraceId text.now id) }
+    ensures { IsFound (IsTraceId text.now) result }
 {
     let number = match number_from_hex(text, 32) {
         Some(number) => number,
@@ -86,7 +82,7 @@ fn read_trace_id(text: &str) -> Option<TraceId>
 
 /// The span id that a text of 16 digits says.
 fn read_span_id(text: &str) -> Option<SpanId>
-    ensures { MatchOption result ((id : ℕ) → ¬ (IsSpanId text.now id)) (λ id. IsSpanId text.now id) }
+    ensures { IsFound (IsSpanId text.now) result }
 {
     let number = number_from_hex(text, 16)?;
     if number == 0 {
@@ -97,9 +93,7 @@ fn read_span_id(text: &str) -> Option<SpanId>
 
 /// The sampling state that the single header says after the span id.
 fn read_state(rest: Option<&str>) -> Option<SamplingState>
-    ensures { MatchOption result
-        ((state : SamplingState) → ¬ (SaysState (option_copied rest.entry) state))
-        (λ state. SaysState (option_copied rest.entry) state) }
+    ensures { IsFound (SaysState (option_copied rest.entry)) result }
 {
     let Some(text) = rest else {
         return Some(SamplingState::Defer);
@@ -126,9 +120,7 @@ fn is_parent(text: Option<&str>) -> bool
 
 /// The sampling state that one character says.
 fn read_mark(text: &str) -> Option<SamplingState>
-    ensures { MatchOption result
-        ((state : SamplingState) → state_mark state ≢ Some text.now)
-        (λ state. state_mark state ≡ Some text.now) }
+    ensures { IsFound (λ state. state_mark state ≡ Some text.now) result }
 {
     match text {
         "1" => Some(SamplingState::Accept),
@@ -144,11 +136,8 @@ fn read_decision(
     flags: Option<&str>,
     sampled: Option<&str>,
 ) -> Option<SamplingState>
-    ensures { MatchOption result
-        ((state : SamplingState) → ¬ (SaysDecision (option_copied single.entry) (option_copied flags.entry)
-        (option_copied sampled.entry) state))
-        (λ state. SaysDecision (option_copied single.entry) (option_copied flags.entry)
-        (option_copied sampled.entry) state) }
+    ensures { IsFound (SaysDecision (option_copied single.entry) (option_copied flags.entry)
+        (option_copied sampled.entry)) result }
 {
     match read_lone(single) {
         Some(state) => Some(state),
@@ -158,9 +147,7 @@ fn read_decision(
 
 /// The sampling state that the single header says alone.
 fn read_lone(single: Option<&str>) -> Option<SamplingState>
-    ensures { MatchOption result
-        ((state : SamplingState) → ¬ (IsLone (option_copied single.entry) state))
-        (λ state. IsLone (option_copied single.entry) state) }
+    ensures { IsFound (IsLone (option_copied single.entry)) result }
 {
     match single {
         Some(text) => read_mark(text),
@@ -170,9 +157,7 @@ fn read_lone(single: Option<&str>) -> Option<SamplingState>
 
 /// The sampling state that the headers of flags and of the decision say.
 fn read_flags(flags: Option<&str>, sampled: Option<&str>) -> Option<SamplingState>
-    ensures { MatchOption result
-        ((state : SamplingState) → ¬ (SaysMany (option_copied flags.entry) (option_copied sampled.entry) state))
-        (λ state. SaysMany (option_copied flags.entry) (option_copied sampled.entry) state) }
+    ensures { IsFound (SaysMany (option_copied flags.entry) (option_copied sampled.entry)) result }
 {
     if let Some("1") = flags {
         return Some(SamplingState::Debug);
@@ -187,13 +172,7 @@ fn read_flags(flags: Option<&str>, sampled: Option<&str>) -> Option<SamplingStat
 
 /// The context of a span of another process.
 fn remote_context(trace_id: TraceId, span_id: SpanId, state: SamplingState) -> SpanContext
-    ensures { result ≡ record {
-      trace_id = trace_id;
-      span_id = span_id;
-      trace_flags = flags_of state;
-      is_remote = true;
-      trace_state = [];
-    } }
+    ensures { result ≡ remote_span trace_id span_id (flags_of state) }
 {
     SpanContext::new(trace_id, span_id, state.flags(), true, TraceState::new())
 }

@@ -3,6 +3,7 @@
 ghost use Rattle.std.specs.Prelude.{◌≡◌, ◌<◌, ◌≤◌, ◌^◌, ◌++◌, [], ℕ, List, All, IfSome, MatchOption, true, false};
 ghost use Rattle.opentelemetry.specs.Hex.{IsHexDigit};
 ghost use Rattle.opentelemetry.specs.Plain.{PlainSpanContext};
+ghost use Rattle.otel_propagators.specs.Reading.{IsFound, remote_span};
 ghost use Rattle.otel_propagators.specs.UberTraceId.{colon_text, flags_read};
 ghost use Rattle.otel_propagators.specs.UberTraceId.{IsNumber, IsUberTraceId, SaysContext, SaysField};
 
@@ -12,9 +13,7 @@ use opentelemetry::{SpanId, TraceFlags, TraceId};
 
 /// The span context that the header says, escaped or not.
 pub fn read_header(text: &str) -> Option<SpanContext>
-    ensures { MatchOption result
-        ((c : PlainSpanContext) → ¬ (IsUberTraceId text.now c))
-        (λ c. IsUberTraceId text.now c) }
+    ensures { IsFound (IsUberTraceId text.now) result }
 {
     match read_context(text, false) {
         Some(span_context) => Some(span_context),
@@ -24,9 +23,7 @@ pub fn read_header(text: &str) -> Option<SpanContext>
 
 /// The span context that the header says in one of both ways.
 fn read_context(text: &str, escaped: bool) -> Option<SpanContext>
-    ensures { MatchOption result
-        ((c : PlainSpanContext) → ¬ (SaysContext escaped text.now c))
-        (λ c. SaysContext escaped text.now c) }
+    ensures { IsFound (SaysContext escaped text.now) result }
 {
     let (trace_id, after_trace) = read_field(text, escaped, 32)?;
     let (span_id, after_span) = read_field(after_trace, escaped, 16)?;
@@ -44,13 +41,7 @@ fn read_context(text: &str, escaped: bool) -> Option<SpanContext>
 /// The context of a span of another process.
 fn remote_context(trace_id: u128, span_id: u128, flags: u128) -> SpanContext
     requires { span_id < 16 ^ 16 }
-    ensures { result ≡ record {
-      trace_id = trace_id;
-      span_id = span_id;
-      trace_flags = flags_read flags;
-      is_remote = true;
-      trace_state = [];
-    } }
+    ensures { result ≡ remote_span trace_id span_id (flags_read flags) }
 {
     SpanContext::new(
         TraceId::from(trace_id),
@@ -108,9 +99,7 @@ fn cut_escaped(text: &str) -> Option<(&str, &str)>
 /// The number that a text of one to `most` digits says.
 fn read_number(text: &str, most: usize) -> Option<u128>
     requires { most ≤ 32 }
-    ensures { MatchOption result
-        ((number : ℕ) → ¬ (IsNumber most text.now number))
-        (λ number. IsNumber most text.now number) }
+    ensures { IsFound (IsNumber most text.now) result }
 {
     let count = text.len();
     if count == 0 {
