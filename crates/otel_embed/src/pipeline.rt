@@ -1,7 +1,6 @@
 //! The pipeline of a host: a processor over an exporter in memory, by the settings that the host hands in.
 
 ghost use Rattle.std.specs.Prelude.{◌≡◌, ◌++◌, ◌∷◌, [], IfOk, string_bytes};
-ghost use Rattle.otel_sampling.specs.Config.{IsConfigOf};
 ghost use Rattle.otel_embed.specs.Opening.{BeginsAs, MatchKind, OpensBy, OpensWith};
 ghost use Rattle.otel_embed.specs.SettingLines.{AreStringsOf};
 
@@ -10,14 +9,12 @@ use crate::pipeline_of::PipelineOf;
 use crate::settings::{ProcessorKind, Settings};
 use opentelemetry::InstrumentationScope;
 use otel_export::trace::{ExporterOf, InMemorySpanExporter, NoExporter};
+use otel_pipeline::trace::provider_builder::config_from_strings;
 use otel_pipeline::trace::{
     FromExporter, ProviderBuilderOf, ProviderOf, SimpleSpanProcessor, SpanProcessor,
 };
 use otel_processors::trace::ProcessorOf;
-use otel_resource::resource::Resource;
-use otel_sampling::trace::{
-    ConfigOf, ConfigStrings, IdSourceOf, NoSampler, RandomIdGenerator, SamplerOf, SpanLimits,
-};
+use otel_sampling::trace::{ConfigStrings, IdSourceOf, NoSampler, RandomIdGenerator, SamplerOf};
 use std::alloc::{AllocError, Global};
 use std::marker::Send;
 
@@ -50,24 +47,6 @@ impl Drop for Pipeline {
     }
 }
 
-/// What the settings configure, with ids of this seed.
-fn config_of(
-    alloc: Global,
-    strings: &ConfigStrings,
-    seed: u64,
-) -> Result<ConfigOf<HostSampler, HostIds>, AllocError>
-    ensures { IfOk result (IsConfigOf strings.now seed) }
-{
-    let mut config = ConfigOf {
-        sampler: HostSampler::AlwaysOn,
-        id_generator: HostIds::Random(RandomIdGenerator::new(seed)),
-        span_limits: SpanLimits::default(),
-        resource: Resource::builder_empty(alloc).build(),
-    };
-    config.set_from_strings(alloc, strings, seed)?;
-    Ok(config)
-}
-
 /// Adds a processor of a kind over this exporter.
 fn with_processor<P: FromExporter>(
     builder: ProviderBuilderOf<P, HostSampler, HostIds>,
@@ -96,7 +75,7 @@ fn pipeline_with<P: FromExporter>(
     ensures { IfOk result (BeginsAs P.SpanProcessor (λ batch made. MatchKind kind (made ≡ P.simple_of exporter)
         (P.batch_of exporter batch made) (P.eager_batch_of exporter batch made)) strings.now seed) }
 {
-    let config = config_of(alloc, strings, seed)?;
+    let config = config_from_strings(alloc, strings, seed)?;
     let resource = config.resource.clone()?;
     let batch_strings = strings.batch.clone()?;
     let is_disabled = strings.is_sdk_disabled();

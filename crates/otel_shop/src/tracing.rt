@@ -9,12 +9,12 @@ use opentelemetry_sdk::error::OTelSdkResult;
 use opentelemetry_sdk::propagation::{
     CompositePropagator, StrictBaggagePropagator, TraceContextPropagator,
 };
-use opentelemetry_sdk::resource::Resource;
 use opentelemetry_sdk::trace::{
-    CloseReport, Closed, ConfigOf, ConfigStrings, CountsLeftSpans, FromExporter, IdSourceOf, Now,
-    ProviderOf, RandomIdGenerator, SamplerOf, SpanLimits, Tracing,
+    CloseReport, Closed, ConfigStrings, CountsLeftSpans, FromExporter, IdSourceOf, Now, ProviderOf,
+    RandomIdGenerator, SamplerOf, Tracing,
 };
 use otel_http::Traced;
+use otel_pipeline::trace::provider_builder::config_from_strings;
 use otel_probability::ConsistentProbabilityBased;
 use std::alloc::{AllocError, AllocFailed, Global};
 use std::io;
@@ -181,7 +181,7 @@ fn provider_with<P: FromExporter>(
     seed: u64,
     exporter: P::Exporter,
 ) -> Result<Provider<P>, AllocError> {
-    let config = config_of(alloc, &settings.strings, seed)?;
+    let config = config_from_strings(alloc, &settings.strings, seed)?;
     let batch_strings = settings.strings.batch.clone()?;
     let provider = Provider::<P>::builder_with_config(
         alloc,
@@ -191,22 +191,6 @@ fn provider_with<P: FromExporter>(
     ).with_eager_batch_exporter(exporter)?
         .build()?;
     Ok(provider)
-}
-
-/// What the strings configure, with ids of this seed.
-fn config_of(
-    alloc: Global,
-    strings: &ConfigStrings,
-    seed: u64,
-) -> Result<ConfigOf<ShopSampler, ShopIds>, AllocError> {
-    let mut config = ConfigOf {
-        sampler: ShopSampler::AlwaysOn,
-        id_generator: ShopIds::Random(RandomIdGenerator::new(seed)),
-        span_limits: SpanLimits::default(),
-        resource: Resource::builder_empty(alloc).build(),
-    };
-    config.set_from_strings(alloc, strings, seed)?;
-    Ok(config)
 }
 
 /// Exports what waits and closes the scope of a shop. Answers the backend too.

@@ -8,11 +8,11 @@ use opentelemetry::InstrumentationScope;
 use opentelemetry_sdk::propagation::{
     NoopTextMapPropagator, PropagatorOf, TextMapCompositePropagator,
 };
-use opentelemetry_sdk::resource::Resource;
 use opentelemetry_sdk::trace::{
-    ConfigOf, ConfigStrings, FromExporter, IdSourceOf, Now, ProviderBuilderOf, ProviderOf,
-    RandomIdGenerator, SamplerOf, SpanLimits, Tracing,
+    ConfigStrings, FromExporter, IdSourceOf, Now, ProviderBuilderOf, ProviderOf, RandomIdGenerator,
+    SamplerOf, Tracing,
 };
+use otel_pipeline::trace::provider_builder::config_from_strings;
 use otel_probability::ConsistentProbabilityBased;
 use std::alloc::{AllocError, Global};
 
@@ -84,13 +84,7 @@ pub fn provider_builder<P>(
 ) -> Result<StartedProviderBuilder<P>, AllocError>
     ensures { IfOk result (BeginsBy strings.now seed) }
 {
-    let mut config = ConfigOf {
-        sampler: StartedSampler::AlwaysOn,
-        id_generator: StartedIds::Random(RandomIdGenerator::new(seed)),
-        span_limits: SpanLimits::default(),
-        resource: Resource::builder_empty(alloc).build(),
-    };
-    config.set_from_strings(alloc, strings, seed)?;
+    let config = config_from_strings(alloc, strings, seed)?;
     let batch_strings = strings.batch.clone()?;
     let is_disabled = strings.is_sdk_disabled();
     Ok(ProviderOf::builder_with_config(alloc, config, batch_strings, is_disabled))

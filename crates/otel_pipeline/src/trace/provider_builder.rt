@@ -6,6 +6,7 @@
 
 ghost use Rattle.std.specs.Prelude.{◌≡◌, ◌++◌, [], ◌∷◌, false, true, IfOk, IsOk, MatchResult, Some};
 ghost use Rattle.std.specs.Bool.{OnFalse};
+ghost use Rattle.otel_sampling.specs.Config.{IsConfigOf};
 ghost use Rattle.otel_pipeline.specs.Each.{AsksAll};
 ghost use Rattle.otel_pipeline.specs.ProviderBuilder as building;
 ghost use Rattle.otel_pipeline.specs.ProviderBuilder.{BeginsBy, Builds, Opens, RefusesResource, TakesResource, with_limits};
@@ -15,7 +16,7 @@ use crate::trace::{FromExporter, ProviderOf, SpanProcessor};
 use otel_resource::resource::Resource;
 use otel_sampling::trace::{
     BatchStrings, ConfigOf, ConfigStrings, IdSource, IdSourceOf, RandomIdGenerator, Sampler,
-    SpanLimits,
+    SamplerOf, SpanLimits,
 };
 use std::alloc::{AllocError, AllocFailed, Global};
 use std::marker::Model;
@@ -49,6 +50,24 @@ impl<P, S, G> Model for ProviderBuilderOf<P, S, G> {
     } };
 }
 
+/// What strings configure, with the SDK's generator of ids under this seed.
+pub fn config_from_strings<C: Drop, D: Drop>(
+    alloc: Global,
+    strings: &ConfigStrings,
+    seed: u64,
+) -> Result<ConfigOf<SamplerOf<C>, IdSourceOf<D>>, AllocError>
+    ensures { IfOk result (IsConfigOf strings.now seed) }
+{
+    let mut config = ConfigOf {
+        sampler: SamplerOf::AlwaysOn,
+        id_generator: IdSourceOf::Random(RandomIdGenerator::new(seed)),
+        span_limits: SpanLimits::default(),
+        resource: Resource::builder_empty(alloc).build(),
+    };
+    config.set_from_strings(alloc, strings, seed)?;
+    Ok(config)
+}
+
 impl<P> ProviderOf<P, Sampler, IdSource> {
     /// Begins with no processor and with what the strings configure, with the SDK's generator of ids under this seed.
     pub fn builder(
@@ -58,13 +77,7 @@ impl<P> ProviderOf<P, Sampler, IdSource> {
     ) -> Result<ProviderBuilderOf<P, Sampler, IdSource>, AllocError>
         ensures { IfOk result (BeginsBy strings.now seed) }
     {
-        let mut config = ConfigOf {
-            sampler: Sampler::AlwaysOn,
-            id_generator: IdSource::Random(RandomIdGenerator::new(seed)),
-            span_limits: SpanLimits::default(),
-            resource: Resource::builder_empty(alloc).build(),
-        };
-        config.set_from_strings(alloc, strings, seed)?;
+        let config = config_from_strings(alloc, strings, seed)?;
         let batch_strings = strings.batch.clone()?;
         let is_disabled = strings.is_sdk_disabled();
         Ok(ProviderOf::builder_with_config(alloc, config, batch_strings, is_disabled))
