@@ -1,4 +1,4 @@
-//! A whole service, which docs/USING.md prints. Each request goes on with the trace of its caller, asks a backend within
+//! A whole service, which docs/USING.md names. Each request goes on with the trace of its caller, asks a backend within
 //! that, and tells the backend of the trace; what is due is exported after each request, and all that waits at the end.
 
 use opentelemetry::InstrumentationScope;
