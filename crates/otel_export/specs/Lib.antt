@@ -1,4 +1,5 @@
 pub mod ErrorText
+pub mod ExporterCalls
 pub mod PlainSpanData
 pub mod SameSpanData
 pub mod StoredBatches

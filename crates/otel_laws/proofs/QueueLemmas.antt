@@ -13,10 +13,11 @@ use Rattle.otel_batch.specs.declared.machine.step.Outcome.TheVariants as outcome
 use Rattle.otel_batch.specs.declared.machine.step.Step.{Step}
 use Rattle.otel_batch.specs.declared.machine.step.Step.TheVariants as step
 use Rattle.otel_batch.proofs.Conserving.{run-loses_none}
-use Rattle.otel_otlp.specs.LineExporter.{HoldsLines, LineExporter, LinedBatch, Shuts, TakesResource, Writes, batches_in}
-use Rattle.otel_otlp.specs.LineExporter.{lines_in, told_by}
+use Rattle.otel_lines.specs.Form.{Form}
+use Rattle.otel_lines.specs.LineExporter.{Exports, GoesUnder, HoldsBatches, LinedBatch, Shuts, StreamExporter, batches_in}
+use Rattle.otel_lines.specs.LineExporter.{lines_in, told_by}
 use Rattle.otel_laws.specs.QueueLines.{LinesHoldSpans, RanOverLines}
-use Rattle.otel_otlp.proofs.LineLemmas.{Carries, Holds, carries_same, export_carries, new_holds, resource_carries, shutdown_carries}
+use Rattle.otel_lines.proofs.LineLemmas.{Carries, Holds, carries_same, export_carries, new_holds, resource_carries, shutdown_carries}
 
 -- where a telling began with nothing, all that it tells is what was handed over
 told_from_none : (batches told : List (List PlainSpanData)) (before after : Option (List (List PlainSpanData)))
@@ -26,23 +27,23 @@ told_from_none batches told before after none some tells =
     subst (λ (x : Option (List (List PlainSpanData))). Tells (Some []) batches x) some
     (subst (λ (x : Option (List (List PlainSpanData))). Tells x batches after) none tells) in cc
 
-module _ {W : Type 0} (contents : W → Option (List ℕ)) (calls : Ghosts (LineExporter W))
-    (exports : (e : LineExporter W) (batch : List PlainSpanData) (answer : _) (f : LineExporter W) → calls.export_gives e batch answer f → Writes contents e batch answer f)
-    (shuts : (e : LineExporter W) (timeout : ℕ) (answer : _) (f : LineExporter W) → calls.shutdown_gives e timeout answer f → Shuts e answer f)
-    (passes : (e : LineExporter W) (resource : _) (f : LineExporter W) → calls.resource_gives e resource f → TakesResource e resource f) where
-  same : (s t : Machine (LineExporter W)) → t.exporter ≡ s.exporter → Carries contents s.exporter t.exporter
-  same s t e = carries_same contents s.exporter t.exporter s.exporter e (refl, λ h. h)
+module _ {W : Type 0} (form : Form) (contents : W → Option (List ℕ)) (calls : Ghosts (StreamExporter W))
+    (exports : (e : StreamExporter W) (batch : List PlainSpanData) (answer : _) (f : StreamExporter W) → calls.export_gives e batch answer f → Exports form contents e batch answer f)
+    (shuts : (e : StreamExporter W) (timeout : ℕ) (answer : _) (f : StreamExporter W) → calls.shutdown_gives e timeout answer f → Shuts e answer f)
+    (passes : (e : StreamExporter W) (resource : _) (f : StreamExporter W) → calls.resource_gives e resource f → GoesUnder e resource f) where
+  same : (s t : Machine (StreamExporter W)) → t.exporter ≡ s.exporter → Carries form contents s.exporter t.exporter
+  same s t e = carries_same form contents s.exporter t.exporter s.exporter e (refl, λ h. h)
 
-  moved_carries : (s : Machine (LineExporter W)) (x : Step) (o : Outcome) (t : Machine (LineExporter W)) → MovesSpans calls s x o t → Carries contents s.exporter t.exporter
+  moved_carries : (s : Machine (StreamExporter W)) (x : Step) (o : Outcome) (t : Machine (StreamExporter W)) → MovesSpans calls s x o t → Carries form contents s.exporter t.exporter
   moved_carries s (step.Send p) outcome.Accepted t m = same s t m.exporter
   moved_carries s step.Pull outcome.Pulled t m = same s t m.exporter
-  moved_carries s step.HandOver (outcome.HandedOver k e) t m = export_carries contents s.exporter s.hand m.answer t.exporter (exports s.exporter s.hand m.answer t.exporter m.gives)
-  moved_carries s step.Take outcome.TookResource t m = resource_carries contents s.exporter _ t.exporter (passes s.exporter _ t.exporter m.gives)
-  moved_carries s step.Close (outcome.ShutDown n) t m = shutdown_carries contents s.exporter m.answer t.exporter (shuts s.exporter 5_000_000_000 m.answer t.exporter m.gives)
+  moved_carries s step.HandOver (outcome.HandedOver k e) t m = export_carries form contents s.exporter s.hand m.answer t.exporter (exports s.exporter s.hand m.answer t.exporter m.gives)
+  moved_carries s step.Take outcome.TookResource t m = resource_carries form contents s.exporter _ t.exporter (passes s.exporter _ t.exporter m.gives)
+  moved_carries s step.Close (outcome.ShutDown n) t m = shutdown_carries form contents s.exporter m.answer t.exporter (shuts s.exporter 5_000_000_000 m.answer t.exporter m.gives)
   moved_carries s _ _ t m = same s t m.exporter
 
-  run_carries : (s : Machine (LineExporter W)) (xs : List Step) (os : List Outcome) (t : Machine (LineExporter W)) → Run calls s xs os t → Carries contents s.exporter t.exporter
-  run_carries s [] [] t run = same s t (ap (λ (m : Machine (LineExporter W)). m.exporter) run)
+  run_carries : (s : Machine (StreamExporter W)) (xs : List Step) (os : List Outcome) (t : Machine (StreamExporter W)) → Run calls s xs os t → Carries form contents s.exporter t.exporter
+  run_carries s [] [] t run = same s t (ap (λ (m : Machine (StreamExporter W)). m.exporter) run)
   run_carries s (x ∷ xs) (o ∷ os) t run =
       let first = moved_carries s x o run.0 run.1.moved in
       let rest = run_carries run.0 xs os t run.2 in
@@ -51,24 +52,24 @@ module _ {W : Type 0} (contents : W → Option (List ℕ)) (calls : Ghosts (Line
   run_carries s (x ∷ xs) [] t run = absurd run
 
   -- what the stream holds, where its exporter began over this writer
-  held_since : (first : W) (e : LineExporter W) (lined : List LinedBatch) → e.begun ≡ first ∷ [] → e.written ≡ Some lined → Holds contents e
-      → Appends (contents first) (contents e.stream.writer) (lines_in lined)
+  held_since : (first : W) (e : StreamExporter W) (lined : List LinedBatch) → e.begun ≡ first ∷ [] → e.written ≡ Some lined → Holds form contents e
+      → Appends (contents first) (contents e.stream.writer) (lines_in form lined)
   held_since first e lined begun written holds =
-      let here : HoldsLines contents (first ∷ []) e.stream (Some lined) =
-      subst (λ (x : Option (List LinedBatch)). HoldsLines contents (first ∷ []) e.stream x) written
-      (subst (λ (x : List W). HoldsLines contents x e.stream e.written) begun holds) in
+      let here : HoldsBatches form contents (first ∷ []) e.stream (Some lined) =
+      subst (λ (x : Option (List LinedBatch)). HoldsBatches form contents (first ∷ []) e.stream x) written
+      (subst (λ (x : List W). HoldsBatches form contents x e.stream e.written) begun holds) in
       let one : first ≡ here.0 = cc in
-      subst (λ (x : W). Appends (contents x) (contents e.stream.writer) (lines_in lined)) (sym one) here.3
+      subst (λ (x : W). Appends (contents x) (contents e.stream.writer) (lines_in form lined)) (sym one) here.3
 
-  pub lines_hold : ((e : LineExporter W) → calls.told e ≡ told_by e) → (first : W) (xs : List Step) (os : List Outcome) (t : Machine (LineExporter W)) (lined : List LinedBatch)
-      → RanOverLines calls first xs os t lined → LinesHoldSpans contents first xs os t lined
+  pub lines_hold : ((e : StreamExporter W) → calls.told e ≡ told_by e) → (first : W) (xs : List Step) (os : List Outcome) (t : Machine (StreamExporter W)) (lined : List LinedBatch)
+      → RanOverLines calls first xs os t lined → LinesHoldSpans form contents first xs os t lined
   lines_hold told first xs os t lined h =
       let whole = run-loses_none calls h.begun xs os t h.is_first h.ran in
       let carried = run_carries h.begun xs os t h.ran in
-      let began = subst (Holds contents) (sym h.is_new) (new_holds contents first h.resource) in
+      let began = subst (Holds form contents) (sym h.is_new) (new_holds form contents first h.resource) in
       let all : whole.batches ≡ batches_in lined =
       told_from_none whole.batches (batches_in lined) (calls.told h.begun.exporter) (calls.told t.exporter)
       (told h.begun.exporter ∙ ap told_by h.is_new) (told t.exporter ∙ ap (option_map batches_in) h.written) whole.told in record {
         conserved = whole.conserved ∙ ap (λ (l : List (List PlainSpanData)). spans_in l ++ (t.hand ++ t.waiting)) all;
-        lines = held_since first t.exporter lined (carried.0 ∙ ap (λ (e : LineExporter W). e.begun) h.is_new) h.written (carried.1 began);
+        lines = held_since first t.exporter lined (carried.0 ∙ ap (λ (e : StreamExporter W). e.begun) h.is_new) h.written (carried.1 began);
       }

@@ -3,7 +3,6 @@ pub mod BatchesAlike
 pub mod Fitting
 pub mod Floats
 pub mod JsonParts
-pub mod LineLemmas
 pub mod LinesCut
 pub mod NoFeed
 pub mod Numbers

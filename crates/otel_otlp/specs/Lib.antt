@@ -1,6 +1,5 @@
 pub mod Fields
 pub mod Fits
-pub mod LineExporter
 pub mod Otlp
 pub mod OtlpSpan
 pub mod OtlpValues

@@ -9,6 +9,7 @@ use Rattle.json.specs.Tree.{json_tokens}
 use Rattle.opentelemetry.specs.Plain.{PlainScope}
 use Rattle.otel_resource.specs.Resource.{PlainResource}
 use Rattle.otel_export.specs.PlainSpanData.{PlainSpanData}
+use Rattle.otel_lines.specs.Form.{Form}
 use Rattle.otel_otlp.specs.Fields.{Field, list_json, object_json}
 use Rattle.otel_otlp.specs.OtlpSpan.{span_json}
 use Rattle.otel_otlp.specs.OtlpValues.{attributes_fields, number_field, pair_json, single, text_field}
@@ -69,3 +70,7 @@ otlp_line resource batch = otlp_text resource batch ++ 10 ∷ []
 -- the lines of batches, in order
 abbrev pub otlp_lines : PlainResource → List (List PlainSpanData) → List ℕ
 otlp_lines resource batches = flat_map (otlp_line resource) batches
+
+-- the form of these lines
+abbrev pub otlp_json : Form
+otlp_json = record { bytes = otlp_line; line_end = Some 10 }

@@ -2,8 +2,8 @@
 //! Spans as the OpenTelemetry protocol writes them in JSON: one request a line, which collectors and viewers read.
 #![tactic(auto)]
 
-mod exporter;
 pub mod fits;
+mod json_lines;
 pub mod laws;
 pub mod parts;
 mod request;
@@ -11,5 +11,5 @@ mod span;
 mod tokens;
 mod value;
 
-pub use exporter::OtlpJsonExporter;
-pub use request::{write_request, write_requests};
+pub use json_lines::{OtlpJson, OtlpJsonExporter, write_requests};
+pub use request::write_request;

@@ -1,11 +1,11 @@
 //! The request of a batch: its resource, and its spans by the scopes that made them.
 
-ghost use Rattle.std.specs.Prelude.{◌≡◌, ◌++◌, ◌∷◌, [], IsOk, OnErr, OnOk, Some, length, map, take};
+ghost use Rattle.std.specs.Prelude.{◌≡◌, ◌++◌, ◌∷◌, [], OnErr, OnOk, Some};
 ghost use Rattle.std.specs.FinMap.{entries};
 ghost use Rattle.json.specs.Json.{document};
 ghost use Rattle.json.specs.Tree.{json_tokens};
 ghost use Rattle.otel_otlp.specs.Fields.{Adds, fields_tokens, list_tokens};
-ghost use Rattle.otel_otlp.specs.Otlp.{otlp_line, otlp_lines, otlp_text, request, resource_json, resource_spans_json, run_json};
+ghost use Rattle.otel_otlp.specs.Otlp.{otlp_line, otlp_text, request, resource_json, resource_spans_json, run_json};
 ghost use Rattle.otel_otlp.specs.Otlp.{scope_json};
 ghost use Rattle.otel_otlp.specs.OtlpSpan.{span_json};
 ghost use Rattle.otel_otlp.specs.OtlpValues.{pair_json};
@@ -168,42 +168,4 @@ pub fn write_request(
         out.truncate(begun);
     }
     ended
-}
-
-/// Appends the lines of batches, as `write_request` does one. On an error nothing is appended.
-pub fn write_requests(
-    alloc: Global,
-    out: &mut Vec<u8>,
-    resource: &Resource,
-    batches: &[Vec<SpanData>],
-) -> Result<(), AllocError>
-    ensures ok { OnOk result
-        (out.new.items ≡ out.old.items ++ otlp_lines resource.now (map (λ batch. batch.items) batches.now)) }
-    ensures err { OnErr result (out.new.items ≡ out.old.items) }
-    ensures free { batches.now ≡ [] → IsOk result }
-{
-    let begun = out.len();
-    let written = push_requests(alloc, out, resource, batches);
-    if written.is_err() {
-        out.truncate(begun);
-    }
-    written
-}
-
-/// The same, but on an error a beginning of the lines stays.
-fn push_requests(
-    alloc: Global,
-    out: &mut Vec<u8>,
-    resource: &Resource,
-    batches: &[Vec<SpanData>],
-) -> Result<(), AllocError>
-    ensures ok { OnOk result
-        (out.new.items ≡ out.old.items ++ otlp_lines resource.now (map (λ batch. batch.items) batches.now)) }
-    ensures front { take (length out.old.items) out.new.items ≡ out.old.items }
-    ensures free { batches.now ≡ [] → IsOk result }
-{
-    for batch in batches {
-        write_request(alloc, out, resource, batch)?;
-    }
-    Ok(())
 }

@@ -1,11 +1,12 @@
 -- A batch of ended spans by names and numbers (opentelemetry-proto 1.7, `trace_service.proto`, `trace.proto`,
 -- `resource.proto` and `common.proto`): an `ExportTraceServiceRequest`.
-use Rattle.std.specs.Prelude.{ℕ, List, [], ◌∷◌, codes}
+use Rattle.std.specs.Prelude.{ℕ, List, [], ◌∷◌, None, codes}
 use Rattle.std.specs.FinMap.{entries}
 use Rattle.std.specs.List.{flat_map}
 use Rattle.opentelemetry.specs.Plain.{PlainScope}
 use Rattle.otel_resource.specs.Resource.{PlainResource}
 use Rattle.otel_export.specs.PlainSpanData.{PlainSpanData}
+use Rattle.otel_lines.specs.Form.{Form}
 use Rattle.otel_otlp.specs.Otlp.{or_empty}
 use Rattle.otel_otlp.specs.ScopeRuns.{run_scope, scope_runs}
 use Rattle.otel_otlp_protobuf.specs.NamedSpan.{span_members}
@@ -60,3 +61,7 @@ delimited_bytes resource batch = after_length (request_bytes resource batch)
 -- the requests of batches, as a file holds them one after the other
 abbrev pub delimited_requests : PlainResource → List (List PlainSpanData) → List ℕ
 delimited_requests resource batches = flat_map (delimited_bytes resource) batches
+
+-- the form of such requests: none can follow one that was cut off
+abbrev pub otlp_delimited : Form
+otlp_delimited = record { bytes = delimited_bytes; line_end = None }

@@ -3,6 +3,7 @@
 //! `application/x-protobuf`.
 #![tactic(auto)]
 
+mod delimited;
 pub mod laws;
 mod message;
 mod request;
@@ -10,4 +11,5 @@ mod span;
 mod value;
 mod write;
 
-pub use request::{write_delimited_requests, write_request_protobuf};
+pub use delimited::{OtlpDelimited, OtlpDelimitedExporter, write_delimited_requests};
+pub use request::write_request_protobuf;

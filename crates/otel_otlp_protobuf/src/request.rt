@@ -1,11 +1,11 @@
 //! The request of a batch: its resource, and its spans by the scopes that made them.
 
-ghost use Rattle.std.specs.Prelude.{◌≡◌, ◌++◌, IsOk, OnErr, OnOk, [], length, map, take};
+ghost use Rattle.std.specs.Prelude.{◌≡◌, ◌++◌, OnErr, OnOk};
 ghost use Rattle.std.specs.FinMap.{entries};
 ghost use Rattle.std.specs.Option.{option_copied};
 ghost use Rattle.otel_otlp.specs.Otlp.{or_empty};
 ghost use Rattle.otel_otlp.specs.ScopeRuns.{run_scope, scope_runs};
-ghost use Rattle.otel_otlp_protobuf.specs.NamedRequest.{delimited_bytes, delimited_requests, request_bytes};
+ghost use Rattle.otel_otlp_protobuf.specs.NamedRequest.{delimited_bytes, request_bytes};
 ghost use Rattle.otel_otlp_protobuf.specs.NamedRequest.{request_members, resource_members};
 ghost use Rattle.otel_otlp_protobuf.specs.NamedRequest.{resource_spans_members, run_members, scope_members};
 ghost use Rattle.otel_otlp_protobuf.specs.NamedRequest.{scope_spans_members};
@@ -134,7 +134,7 @@ pub fn write_request_protobuf(
 }
 
 /// Appends the same request after its length. On an error nothing is appended.
-fn write_delimited(
+pub(crate) fn write_delimited(
     alloc: Global,
     out: &mut Vec<u8>,
     resource: &Resource,
@@ -145,43 +145,4 @@ fn write_delimited(
 {
     let spans = ResourceSpans { resource, batch };
     write_after_length(alloc, out, &Request { spans })
-}
-
-/// Appends the requests of batches, each after its length, as a file holds them one after the other. On an error
-/// nothing is appended.
-pub fn write_delimited_requests(
-    alloc: Global,
-    out: &mut Vec<u8>,
-    resource: &Resource,
-    batches: &[Vec<SpanData>],
-) -> Result<(), AllocError>
-    ensures ok { OnOk result (out.new.items
-        ≡ out.old.items ++ delimited_requests resource.now (map (λ batch. batch.items) batches.now)) }
-    ensures err { OnErr result (out.new.items ≡ out.old.items) }
-    ensures free { batches.now ≡ [] → IsOk result }
-{
-    let begun = out.len();
-    let written = push_delimited_requests(alloc, out, resource, batches);
-    if written.is_err() {
-        out.truncate(begun);
-    }
-    written
-}
-
-/// The same, but on an error a beginning of the requests stays.
-fn push_delimited_requests(
-    alloc: Global,
-    out: &mut Vec<u8>,
-    resource: &Resource,
-    batches: &[Vec<SpanData>],
-) -> Result<(), AllocError>
-    ensures ok { OnOk result (out.new.items
-        ≡ out.old.items ++ delimited_requests resource.now (map (λ batch. batch.items) batches.now)) }
-    ensures front { take (length out.old.items) out.new.items ≡ out.old.items }
-    ensures free { batches.now ≡ [] → IsOk result }
-{
-    for batch in batches {
-        write_delimited(alloc, out, resource, batch)?;
-    }
-    Ok(())
 }
