@@ -2,6 +2,8 @@
 //! An exporter for eyes: it writes a line of text for each span that is exported, to a terminal or any other writer.
 #![tactic(auto)]
 
-mod console_span_exporter;
+pub mod digits;
+mod exporter;
+pub mod span_text;
 
-pub use console_span_exporter::ConsoleSpanExporter;
+pub use exporter::{ConsoleLines, ConsoleSpanExporter};

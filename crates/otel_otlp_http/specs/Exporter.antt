@@ -3,6 +3,7 @@ use Rattle.std.specs.Prelude.{◌≡◌, ◌⊎◌, ℕ, Bool, true, false, List
 use Rattle.std.specs.Prelude.{if◌then◌else◌}
 use Rattle.std.specs.Bool.{MatchBool}
 use Rattle.otel_resource.specs.Resource.{PlainResource}
+use Rattle.otel_export.specs.ExporterCalls.{TakesResource, shutdown_answer}
 use Rattle.otel_export.specs.declared.error.OTelSdkError.{OTelSdkError}
 use Rattle.otel_export.specs.declared.error.OTelSdkError.TheVariants as errors
 use Rattle.otel_export.specs.PlainSpanData.{PlainSpanData}
@@ -98,10 +99,8 @@ module _ {S : Type 0} (contents remaining : S → Option (List ℕ)) where
 
 -- what a shutdown does: nothing is sent after it, and a second one says so
 abbrev pub Shuts : {S : Type 0} → HttpExporter S → Result (Unit {0}) OTelSdkError → HttpExporter S → Type 0
-Shuts old answer new =
-    (answer ≡ (if old.is_shut then Err errors.AlreadyShutdown else Ok tt)) × (new ≡ record old { is_shut = true })
+Shuts old answer new = (answer ≡ shutdown_answer old.is_shut) × (new ≡ record old { is_shut = true })
 
--- what it does with a resource: the spans to come are of that, or of none where there is no memory for it
-abbrev pub TakesResource : {S : Type 0} → HttpExporter S → PlainResource → HttpExporter S → Type 0
-TakesResource old resource new =
-    (new ≡ record old { resource = Some resource }) ⊎ (new ≡ record old { resource = None })
+-- what it does with a resource
+abbrev pub GoesUnder : {S : Type 0} → HttpExporter S → PlainResource → HttpExporter S → Type 0
+GoesUnder old resource new = TakesResource (λ given. record old { resource = given }) resource new

@@ -1,6 +1,7 @@
 -- What becomes of a batch that was not taken, by the failure.
 use Rattle.std.specs.Prelude.{◌≡◌, Bool, true, false, Option, Some, None}
 use Rattle.std.specs.Prelude.{Result, Ok, Err}
+use Rattle.otel_export.specs.ExporterCalls.{IsInternalFailure}
 use Rattle.otel_export.specs.declared.error.OTelSdkError.{OTelSdkError}
 use Rattle.otel_export.specs.declared.error.OTelSdkError.TheVariants as errors
 use Rattle.otel_otlp_http.specs.declared.failure.ExportFailure.{ExportFailure}
@@ -25,12 +26,6 @@ is_kept None = false
 is_kept (Some failure) = is_kept_after failure
 
 -- what an export answers: a batch that is lost is named by its answer
-abbrev pub IsInternalFailure : OTelSdkError → Type 0
-IsInternalFailure (errors.InternalFailure reason) = Unit {0}
-IsInternalFailure errors.OutOfMemory = ⊥
-IsInternalFailure errors.AlreadyShutdown = ⊥
-IsInternalFailure (errors.Timeout duration) = ⊥
-
 abbrev pub IsFailureOf : ExportFailure → OTelSdkError → Type 0
 IsFailureOf failures.Lost error = error ≡ errors.OutOfMemory
 IsFailureOf failure error = IsInternalFailure error

@@ -155,7 +155,7 @@ fn settle(unsent: &mut Vec<Vec<SpanData>>, batch: Vec<SpanData>, failure: Option
 }
 
 impl<S: Read + Write + Drop> SpanExporter for OtlpHttpExporter<S> {
-    ghost use Rattle.otel_otlp_http.specs.Exporter.{Exports, Shuts, TakesResource, told_by};
+    ghost use Rattle.otel_otlp_http.specs.Exporter.{Exports, GoesUnder, Shuts, told_by};
 
     ghost told = { told_by };
 
@@ -163,7 +163,7 @@ impl<S: Read + Write + Drop> SpanExporter for OtlpHttpExporter<S> {
 
     ghost shutdown_gives = { λ old _ answer new. Shuts old answer new };
 
-    ghost resource_gives = { TakesResource };
+    ghost resource_gives = { GoesUnder };
 
     /// `OutOfMemory` says that the batch was lost: there was no memory to keep it, so that it was not sent. After a
     /// shutdown it is `AlreadyShutdown`, and the batch is dropped. All else is `InternalFailure`, which `last_failure`

@@ -1,10 +1,8 @@
 pub mod Cuts
 pub mod FieldLemmas
 pub mod FirstByte
-pub mod HexBytesLemmas
 pub mod KindLemmas
 pub mod JoinedLines
 pub mod JoinedTexts
-pub mod Listed
 pub mod OneReading
 pub mod Spelled

@@ -5,7 +5,8 @@ use Rattle.otel_trace_lines.specs.PlainReply.{PlainReply}
 use Rattle.otel_trace_lines.specs.declared.reply.Answer.{Answer}
 use Rattle.otel_trace_lines.specs.declared.reply.Answer.TheVariants as answers
 use Rattle.otel_export.specs.ErrorText.{error_text}
-use Rattle.otel_trace_lines.specs.ReplyText.{line, span_lines, started_line, dropped_line, ok_line, headers_lines}
+use Rattle.otel_console.specs.SpanText.{line, span_lines}
+use Rattle.otel_trace_lines.specs.ReplyText.{started_line, dropped_line, ok_line, headers_lines}
 use Rattle.otel_trace_lines.specs.ReplyText.{no_headers_line, ignored_line, no_such_span_line, span_exists_line}
 use Rattle.otel_trace_lines.specs.ReplyText.{still_open_line, ended_line}
 

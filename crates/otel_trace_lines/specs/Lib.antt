@@ -2,7 +2,6 @@ pub mod AnswerText
 pub mod Commands
 pub mod Dialects
 pub mod Found
-pub mod HexBytes
 pub mod Lines
 pub mod PlainReply
 pub mod ReplyForm

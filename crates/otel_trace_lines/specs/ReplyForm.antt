@@ -4,7 +4,7 @@ use Rattle.std.specs.List.{flat_map}
 use Rattle.otel_export.specs.PlainSpanData.{PlainSpanData, spans_in}
 use Rattle.otel_trace_lines.specs.AnswerText.{reply_text}
 use Rattle.otel_trace_lines.specs.PlainReply.{PlainReply}
-use Rattle.otel_trace_lines.specs.ReplyText.{span_lines}
+use Rattle.otel_console.specs.SpanText.{span_lines}
 use Rattle.otel_trace_lines.specs.declared.dialect.Dialect.{Dialect}
 use Rattle.otel_trace_lines.specs.declared.dialect.Dialect.TheVariants as dialects
 

@@ -5,7 +5,6 @@
 
 pub mod command;
 pub mod dialect;
-mod digits;
 mod extended;
 pub mod fields;
 pub mod laws;

@@ -7,7 +7,7 @@ use Rattle.otel_batch.specs.MachineState.{Machine, first_machine}
 use Rattle.otel_batch.specs.MachineRun.{IsStep}
 use Rattle.otel_batch.specs.declared.machine.step.Outcome.{Outcome}
 use Rattle.otel_export.specs.declared.trace.export.SpanExporter.{Ghosts}
-use Rattle.otel_trace_lines.specs.ReplyText.{line}
+use Rattle.otel_console.specs.SpanText.{line}
 use Rattle.otel_trace_steps.specs.StepLines.{IsBadOrder, ReadsOrder}
 use Rattle.otel_trace_steps.specs.StepTexts.{outcome_text, state_text}
 use Rattle.otel_trace_steps.specs.declared.steps.step_lines.Order.{Order}

@@ -8,7 +8,7 @@ use Rattle.otel_export.specs.StoredBatches.{StoredBatches}
 use Rattle.otel_batch.specs.MachineState.{Machine}
 use Rattle.otel_batch.specs.declared.machine.step.Outcome.{Outcome}
 use Rattle.otel_batch.specs.declared.machine.step.Outcome.TheVariants as outcomes
-use Rattle.otel_trace_lines.specs.ReplyText.{listed, spaced}
+use Rattle.otel_console.specs.SpanText.{listed, spaced}
 
 -- the names of spans, in brackets
 abbrev pub names_text : List PlainSpanData → List ℕ

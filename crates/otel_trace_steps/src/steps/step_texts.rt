@@ -5,8 +5,8 @@ ghost use Rattle.opentelemetry.specs.Text.{TextGrows};
 ghost use Rattle.otel_trace_steps.specs.StepTexts.{counts_text, pulled_name, names_text, outcome_text, state_text, told_text};
 
 use otel_batch::machine::{BatchMachine, Outcome};
+use otel_console::span_text::push_comma;
 use otel_export::trace::{InMemorySpanExporter, SpanData};
-use otel_trace_lines::reply_text::push_comma;
 use std::alloc::AllocError;
 use std::fmt::Write;
 

@@ -1,7 +1,7 @@
 -- Where no line is to be written, there is no span.
 use Rattle.std.proofs.Common.{◌≡◌, List, [], ◌∷◌, refl}
 use Rattle.otel_export.specs.PlainSpanData.{PlainSpanData}
-use Rattle.otel_trace_lines.specs.ReplyText.{span_lines}
+use Rattle.otel_console.specs.SpanText.{span_lines}
 use Rattle.otel_trace_lines.proofs.reply_form.ReplyLinesReplyForm.write_rest.Goals as goal
 
 no_spans : (spans : List PlainSpanData) → span_lines spans ≡ [] → spans ≡ []

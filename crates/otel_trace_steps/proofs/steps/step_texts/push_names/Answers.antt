@@ -1,6 +1,6 @@
 -- One name more is written, after a comma if others stand before it.
 use Rattle.std.proofs.Common.{◌≡◌, ◌++◌, string_bytes, arith, rules}
-use Rattle.otel_trace_lines.proofs.Listed.{item_written}
+use Rattle.otel_console.proofs.Listed.{item_written}
 use Rattle.otel_trace_steps.proofs.steps.step_texts.push_names.Goals as goal
 
 pub loop-i-preserved : goal.loop-i-preserved

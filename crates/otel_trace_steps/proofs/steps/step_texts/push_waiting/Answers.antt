@@ -1,7 +1,7 @@
 -- One name more is written, after a comma if others stand before it.
 use Rattle.std.proofs.Common.{◌≡◌, ◌++◌, Some, slice_get, string_bytes, sym, arith, rules}
 use Rattle.std.proofs.lemmas.Option.{get_or_from_slice_get}
-use Rattle.otel_trace_lines.proofs.Listed.{item_written}
+use Rattle.otel_console.proofs.Listed.{item_written}
 use Rattle.otel_trace_steps.proofs.steps.step_texts.push_waiting.Goals as goal
 
 pub loop-i-preserved : goal.loop-i-preserved

@@ -1,0 +1,2 @@
+pub mod HexBytesLemmas
+pub mod Listed

@@ -1,8 +1,0 @@
--- The attributes so far are written.
-use Rattle.std.proofs.Common.{◌≡◌, ◌∷◌, ◌++◌, take, map, string_bytes}
-use Rattle.std.specs.List.{join_with_byte}
-use Rattle.otel_trace_lines.specs.ReplyText.{attribute_text}
-use Rattle.otel_trace_lines.proofs.reply_text.push_attribute_list.Given as goal
-
-abbrev pub invariant-loop-i : goal.invariant-loop-i
-invariant-loop-i l = string_bytes l.text ≡ string_bytes l.fn.text ++ (91 ∷ join_with_byte 44 (map attribute_text (take l.i l.attributes)))
