@@ -1,1 +1,2 @@
+mod FirstByte
 pub mod LineLemmas

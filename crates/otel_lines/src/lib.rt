@@ -4,7 +4,9 @@
 
 mod exporter;
 mod form;
+mod line_feed;
 mod writer;
 
 pub use exporter::LineExporter;
 pub use form::{BatchForm, write_batches};
+pub use line_feed::first_line_feed;

@@ -2,7 +2,6 @@ pub mod Depths
 pub mod Digits
 pub mod DigitsRead
 pub mod Documents
-pub mod FirstByte
 pub mod InputsRead
 pub mod Items
 pub mod KeptReading

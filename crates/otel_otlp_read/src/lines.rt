@@ -1,23 +1,16 @@
 //! The lines of a text, and which of them are blank.
 
-ghost use Rattle.std.specs.Prelude.{◌≡◌, ◌<◌, ◌==◌, ◌∷◌, IfSome, length, option_map, position};
+ghost use Rattle.std.specs.Prelude.{◌≡◌, ◌<◌, ◌∷◌, IfSome, length, option_map};
 ghost use Rattle.otel_otlp_read.specs.Inputs.{is_blank, text_lines, lines_after};
 
-use memchr::memchr;
-
-/// Where the first line feed stands.
-fn line_feed(text: &[u8]) -> Option<usize>
-    ensures { result ≡ position (λ b. b == 10) text.now }
-{
-    memchr(b'\n', text)
-}
+use otel_lines::first_line_feed;
 
 /// The first line of a text, and the text after its line feed; no text where it has none.
 pub(crate) fn first_line(text: &[u8]) -> (&[u8], Option<&[u8]>)
     ensures cut { text_lines text.now ≡ result.0.now ∷ lines_after (option_map (λ t. t.now) result.1) }
     ensures shorter { IfSome result.1 (λ after. length after.now < length text.now) }
 {
-    match line_feed(text) {
+    match first_line_feed(text) {
         Some(end) => (&text[..end], Some(&text[end + 1..])),
         None => (text, None),
     }

@@ -1,6 +1,5 @@
 pub mod Cuts
 pub mod FieldLemmas
-pub mod FirstByte
 pub mod KindLemmas
 pub mod JoinedLines
 pub mod JoinedTexts

@@ -1,6 +1,6 @@
 //! The parts of a line: fields, each ended by a space, numbers, and the line itself.
 
-ghost use Rattle.std.specs.Prelude.{◌≡◌, ◌≢◌, ℕ, ◌<◌, All, List, slice_index, take, [], ◌∷◌, ◌++◌, length, Option, None, Some, IfOk, IsOk, IsTrue, ◌↔◌, MatchOption, codes, position, ◌==◌, is_some, true};
+ghost use Rattle.std.specs.Prelude.{◌≡◌, ◌≢◌, ℕ, ◌<◌, All, List, slice_index, take, [], ◌∷◌, ◌++◌, length, Option, None, Some, IfOk, IsOk, IsTrue, ◌↔◌, MatchOption, codes, is_some, true};
 ghost use Rattle.std.specs.Str.Lines.{lines as lines_of, strip_carriage_return};
 ghost use Rattle.otel_trace_lines.specs.Dialects.{MayHave};
 ghost use Rattle.otel_trace_lines.specs.Found.{FloatGives, IntegerGives, KindGives, SpellsStatus};
@@ -17,9 +17,9 @@ ghost use Rattle.otel_trace_lines.specs.Lines.{
 };
 
 use crate::dialect::Dialect;
-use memchr::memchr;
 use opentelemetry::Moment;
 use opentelemetry::trace::{SpanKind, Status};
+use otel_lines::first_line_feed;
 use std::alloc::{AllocError, Global};
 
 /// Two fields and what stands after the space that ends the second; none where there are not so many.
@@ -243,17 +243,10 @@ pub fn first_line(text: &[u8]) -> Option<(&[u8], &[u8])>
     if text.is_empty() {
         return None;
     }
-    match line_feed(text) {
+    match first_line_feed(text) {
         None => Some((text, &[])),
         Some(end) => Some((without_carriage_return(&text[..end]), &text[end + 1..])),
     }
-}
-
-/// Where the first line feed stands.
-fn line_feed(text: &[u8]) -> Option<usize>
-    ensures { result ≡ position (λ b. b == 10) text.now }
-{
-    memchr(b'\n', text)
 }
 
 /// A line without the one carriage return at its end, if it has one.
