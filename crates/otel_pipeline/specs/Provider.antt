@@ -3,6 +3,7 @@ use Rattle.std.specs.Prelude.{◌≡◌, ℕ, ◌↔◌, Bool, true, List, [], R
 use Rattle.std.specs.Prelude.{if◌then◌else◌}
 use Rattle.opentelemetry.specs.Plain.{PlainContext, PlainSpanContext}
 use Rattle.opentelemetry.specs.PlainContexts.{current_span_context, empty_span_context}
+use Rattle.otel_export.specs.ExporterCalls.{IsInternalFailure}
 use Rattle.otel_export.specs.declared.error.OTelSdkError.{OTelSdkError}
 use Rattle.otel_export.specs.declared.error.OTelSdkError.TheVariants as errors
 use Rattle.otel_sampling.specs.declared.trace.span_limit.SpanLimits.{SpanLimits}
@@ -31,11 +32,6 @@ unstarted_context provider cx = if provider.is_disabled then current_span_contex
 abbrev pub shut_answer : {P : Type 0} → Bool → List P → Result (Unit {0}) OTelSdkError
 shut_answer true [] = Ok tt
 shut_answer _ _ = Err errors.AlreadyShutdown
-
--- a failure of the SDK that is not one of the named ones
-abbrev pub IsInternalFailure : OTelSdkError → Type 0
-IsInternalFailure (errors.InternalFailure _) = Unit {0}
-IsInternalFailure _ = ⊥
 
 -- what a close reports of processors as it leaves them: how many spans those that closed closed over, and how many wait
 -- in those that are open

@@ -4,7 +4,7 @@ use Rattle.std.specs.Bool.{MatchBool}
 use Rattle.otel_export.specs.declared.error.OTelSdkError.{OTelSdkError}
 use Rattle.otel_export.specs.PlainSpanData.{PlainSpanData}
 use Rattle.otel_export.specs.declared.error.OTelSdkError.TheVariants.{AlreadyShutdown}
-use Rattle.otel_pipeline.specs.Provider.{IsInternalFailure}
+use Rattle.otel_export.specs.ExporterCalls.{IsInternalFailure}
 use Rattle.otel_batch.specs.Slots.{is_idle}
 use Rattle.otel_batch.specs.MachineState.{Control, Machine, Counts, counts, is_crowded, slot_at}
 use Rattle.otel_batch.specs.SoundMachine.{IsSound}

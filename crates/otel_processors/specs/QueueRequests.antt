@@ -6,8 +6,8 @@ use Rattle.otel_resource.specs.Resource.{PlainResource}
 use Rattle.otel_export.specs.declared.error.OTelSdkError.{OTelSdkError}
 use Rattle.otel_export.specs.declared.error.OTelSdkError.TheVariants.{AlreadyShutdown, OutOfMemory}
 use Rattle.otel_export.specs.Telling.{and_then_told}
+use Rattle.otel_export.specs.ExporterCalls.{IsInternalFailure}
 use Rattle.otel_pipeline.specs.ProcessorTelling.{ProcessorTelling, TakesNothing, spans_told}
-use Rattle.otel_pipeline.specs.Provider.{IsInternalFailure}
 use Rattle.otel_batch.specs.Workers.{is_ready, is_gone}
 use Rattle.otel_batch.specs.MachineState.{Machine, counts, is_crowded, stranded_in}
 use Rattle.otel_batch.specs.DrainResult.{IsErrorOf}

@@ -6,10 +6,11 @@ ghost use Rattle.std.specs.Prelude.{◌≡◌, ◌-◌, ◌≤◌, ◌↔◌, []
 ghost use Rattle.std.specs.Bool.{OnTrue, OnFalse};
 ghost use Rattle.std.specs.Duration.{as_nanos};
 ghost use Rattle.opentelemetry.specs.Plain.{scope_named};
+ghost use Rattle.otel_export.specs.ExporterCalls.{IsInternalFailure};
 ghost use Rattle.otel_pipeline.specs.Deliveries.{EachFollows};
 ghost use Rattle.otel_pipeline.specs.Each.{AsksAll};
 ghost use Rattle.otel_pipeline.specs.Ending.{TakesAndTells};
-ghost use Rattle.otel_pipeline.specs.Provider.{Flushes, IsInternalFailure, ReportsLeft, RunsDue, ShutsDown, shut_answer};
+ghost use Rattle.otel_pipeline.specs.Provider.{Flushes, ReportsLeft, RunsDue, ShutsDown, shut_answer};
 ghost use Rattle.otel_pipeline.specs.ProviderBuilder.{disabled_provider, open_provider};
 ghost use Rattle.otel_pipeline.specs.StartRequest.{start_moment};
 ghost use Rattle.otel_pipeline.specs.Starting.{DrawsIds, PassesThrough};
