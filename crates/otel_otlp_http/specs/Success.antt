@@ -1,12 +1,12 @@
 -- What the body of a success says of the spans: how many were rejected (OTLP 1.7, "Partial Success").
-use Rattle.std.specs.Prelude.{◌≡◌, ◌≢◌, ◌⊎◌, ℕ, List, [], ◌∷◌, length, Option, Some, None, codes}
+use Rattle.std.specs.Prelude.{◌≡◌, ◌≢◌, ◌⊎◌, ℕ, List, [], ◌∷◌, Option, Some, None, codes}
 use Rattle.std.specs.Str.{IsUtf8}
 use Rattle.json.specs.Find.{get}
 use Rattle.json.specs.Json.{Json, null, boolean, number, string, array, object, document}
 use Rattle.otel_http_post.specs.Count.{count_in}
 use Rattle.otel_otlp_http.specs.declared.encoding.Encoding.{Encoding}
 use Rattle.otel_otlp_http.specs.declared.encoding.Encoding.TheVariants as encodings
-use Rattle.otel_otlp_http.specs.ProtobufSuccess.{responses}
+use Rattle.otel_otlp_http.specs.ProtobufSuccess.{rejected_in}
 
 -- a count: a text of digits, as 64 bits are written in JSON, or a number; where there is none it is 0
 abbrev pub count_of : Option Json → Option ℕ
@@ -45,7 +45,7 @@ SaysJson body count =
 
 -- what a body says in its encoding
 abbrev pub Says : Encoding → List ℕ → Option ℕ → Type 0
-Says encodings.Protobuf body count = count ≡ responses (length body) 0 body
+Says encodings.Protobuf body count = count ≡ rejected_in body
 Says encodings.Json body count = SaysJson body count
 
 -- an empty body says that no span was rejected

@@ -1,3 +1,5 @@
+mod Narrowing
 pub mod ReadingBack
+pub mod Stepping
 pub mod Taking
 pub mod Varints

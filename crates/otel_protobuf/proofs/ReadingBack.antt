@@ -11,7 +11,7 @@ use Rattle.otel_protobuf.specs.Wire.{Wire, varint, fixed64, bytes, message, fixe
 use Rattle.otel_protobuf.specs.Wire.{wire_bytes, fields_bytes, wire_type, key_bytes, after_length, varint_bytes}
 use Rattle.otel_protobuf.specs.Wire.{WireFits, FieldsFit}
 use Rattle.otel_protobuf.specs.Reading.{Raw, number, eight, four, sized, Read, read_some, read_raw, read_field, read_fields}
-use Rattle.otel_protobuf.specs.Reading.{IsReadAs, AreReadAs, ReadsAs}
+use Rattle.otel_protobuf.specs.Reading.{IsReadAs, AreReadAs, ReadsAs, read_varint}
 use Rattle.otel_protobuf.proofs.Varints.{has_byte, reads_varint}
 
 -- bytes, and others after them
@@ -30,18 +30,18 @@ reads_some bs rest =
     rw (le-leb (length bs) (length (bs ++ rest)) room) (cut_at_seam bs rest)
 
 -- what has a length, and others after it
-reads_sized : (bs rest : List ℕ) → read_raw 2 (after_length bs ++ rest) ≡ Some (sized bs, rest)
+reads_sized : (bs rest : List ℕ) → read_raw read_varint 2 (after_length bs ++ rest) ≡ Some (sized bs, rest)
 reads_sized bs rest =
-    ap (read_raw 2) (append_assoc (varint_bytes (length bs)) bs rest)
+    ap (read_raw read_varint 2) (append_assoc (varint_bytes (length bs)) bs rest)
     ∙ rw (reads_varint (length bs) (bs ++ rest)) (rw (reads_some bs rest) refl)
 
 -- numbers of a width, and others after them
-reads_eight : (n : ℕ) (rest : List ℕ) → n < 2 ^ 64 → read_raw 1 (to_le_bytes w64 n ++ rest) ≡ Some (eight n, rest)
+reads_eight : (n : ℕ) (rest : List ℕ) → n < 2 ^ 64 → read_raw read_varint 1 (to_le_bytes w64 n ++ rest) ≡ Some (eight n, rest)
 reads_eight n rest h =
     ap (option_map (λ r. (eight (from_le_bytes w64 r.0), r.1))) (reads_some (to_le_bytes w64 n) rest)
     ∙ ap (λ m. read_of (eight m) rest) (from_le_bytes-to_le_bytes_8 n h)
 
-reads_four : (n : ℕ) (rest : List ℕ) → n < 2 ^ 32 → read_raw 5 (to_le_bytes w32 n ++ rest) ≡ Some (four n, rest)
+reads_four : (n : ℕ) (rest : List ℕ) → n < 2 ^ 32 → read_raw read_varint 5 (to_le_bytes w32 n ++ rest) ≡ Some (four n, rest)
 reads_four n rest h =
     ap (option_map (λ r. (four (from_le_bytes w32 r.0), r.1))) (reads_some (to_le_bytes w32 n) rest)
     ∙ ap (λ m. read_of (four m) rest) (from_le_bytes-to_le_bytes_4 n h)
@@ -61,28 +61,28 @@ kind_fits (message fs) = lit< tt
 kind_fits (fixed32 n) = lit< tt
 
 reads_field : (n : ℕ) (wire : Wire) (raw : Raw) (rest : List ℕ)
-    → read_raw (wire_type wire) (wire_bytes wire ++ rest) ≡ Some (raw, rest)
-    → read_field (key_bytes n (wire_type wire) ++ (wire_bytes wire ++ rest)) ≡ Some ((n, raw), rest)
+    → read_raw read_varint (wire_type wire) (wire_bytes wire ++ rest) ≡ Some (raw, rest)
+    → read_field read_varint (key_bytes n (wire_type wire) ++ (wire_bytes wire ++ rest)) ≡ Some ((n, raw), rest)
 reads_field n wire raw rest h =
     rw (reads_varint (8 * n + wire_type wire) (wire_bytes wire ++ rest))
     (rw (number_of_key n (wire_type wire) (kind_fits wire), kind_of_key n (wire_type wire) (kind_fits wire), h) refl)
 
 -- the first field, and then the others
 reads_first : (more : ℕ) (bs : List ℕ) (r : ℕ × Raw) (rest : List ℕ) (rs : List (ℕ × Raw)) → 0 < length bs
-    → length bs ≤ suc more → read_field bs ≡ Some (r, rest) → read_fields more rest ≡ Some rs
-    → read_fields (suc more) bs ≡ Some (r ∷ rs)
+    → length bs ≤ suc more → read_field read_varint bs ≡ Some (r, rest) → read_fields read_varint more rest ≡ Some rs
+    → read_fields read_varint (suc more) bs ≡ Some (r ∷ rs)
 unfolding read_fields
 reads_first more [] r rest rs h l one others = absurd (omega arith)
 reads_first more (b ∷ bs) r rest rs h l one others = rw one (rw others refl)
 
 -- so many steps read the fields
 abbrev ReadsWithin : ℕ → Fields → Type 0
-ReadsWithin more fs = (raws : List (ℕ × Raw)) × (read_fields more (fields_bytes fs) ≡ Some raws) × AreReadAs fs raws
+ReadsWithin more fs = (raws : List (ℕ × Raw)) × (read_fields read_varint more (fields_bytes fs) ≡ Some raws) × AreReadAs fs raws
 
 -- what a field holds, whatever comes after it
 abbrev ReadsWire : Wire → List ℕ → Type 0
 ReadsWire wire rest =
-    (raw : Raw) × (read_raw (wire_type wire) (wire_bytes wire ++ rest) ≡ Some (raw, rest)) × IsReadAs wire raw
+    (raw : Raw) × (read_raw read_varint (wire_type wire) (wire_bytes wire ++ rest) ≡ Some (raw, rest)) × IsReadAs wire raw
 
 reads_none : (more : ℕ) → ReadsWithin more no_fields
 unfolding read_fields

@@ -1,3 +1,4 @@
+pub mod Held
 pub mod Progress
 pub mod Reading
 pub mod Wire

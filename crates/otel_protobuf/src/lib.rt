@@ -4,6 +4,8 @@
 #![tactic(auto)]
 
 pub mod laws;
+mod reader;
 mod sink;
 
+pub use reader::{Held, read_field};
 pub use sink::Sink;
