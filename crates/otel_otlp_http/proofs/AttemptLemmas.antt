@@ -2,12 +2,11 @@
 use Rattle.std.proofs.Common.{◌≡◌, ℕ, ◌==◌, ◌∙◌, Bool, true, false, cond, List, Option, Some, None, refl, ap, inl, inr}
 use Rattle.std.specs.Prelude.{Result, Ok, Err, ◌^◌, nat_lt}
 use Rattle.std.specs.Bool.{MatchBool}
-use Rattle.http1.specs.declared.client.Client.{Client}
 use Rattle.otel_http_post.specs.declared.error.AnswerError.{AnswerError}
 use Rattle.otel_otlp_http.specs.declared.encoding.Encoding.{Encoding}
 use Rattle.otel_otlp_http.specs.declared.failure.ExportFailure.{ExportFailure}
 use Rattle.otel_otlp_http.specs.declared.failure.ExportFailure.TheVariants as failures
-use Rattle.otel_otlp_http.specs.Attempts.{Exchanges, IsAnswered}
+use Rattle.otel_otlp_http.specs.Attempts.{Connection, Exchanges, IsAnswered, Made}
 use Rattle.otel_otlp_http.specs.Verdicts.{JudgesSuccess, by_rejected, is_retryable, is_success, unless_success}
 
 -- an answer was read
@@ -50,11 +49,10 @@ by_status encoding status retry_after body failure true judges =
 by_status encoding status retry_after body failure false is =
     ap is_answered is ∙ unless_answered status retry_after (is_retryable status)
 
-module _ {S : Type 0} (contents remaining : S → Option (List ℕ)) (encoding : Encoding) (client : Client)
-    (text : List ℕ) (old new : S) (is_open : Bool) where
+module _ {S : Type 0} (contents remaining : S → Option (List ℕ)) (made : Made) (old : S) (new : Connection S) where
   by_failure : (failure : Option ExportFailure) → is_answered failure ≡ true
-      → IsAnswered contents remaining encoding client text old failure new is_open
-      → Exchanges contents remaining encoding client text old failure new is_open
+      → IsAnswered contents remaining made old failure new
+      → Exchanges contents remaining made old failure new
   by_failure None answered h = h
   by_failure (Some (failures.Retryable status retry_after)) answered h = h
   by_failure (Some (failures.Refused status)) answered h = h
@@ -70,8 +68,8 @@ module _ {S : Type 0} (contents remaining : S → Option (List ℕ)) (encoding :
 
   -- an answer that was read is an exchange
   pub answered_exchange : (failure : Option ExportFailure)
-      → IsAnswered contents remaining encoding client text old failure new is_open
-      → Exchanges contents remaining encoding client text old failure new is_open
+      → IsAnswered contents remaining made old failure new
+      → Exchanges contents remaining made old failure new
   answered_exchange failure h =
       by_failure failure
-      (by_status encoding h.status h.retry_after h.body failure (is_success h.status) h.judges) h
+      (by_status made.encoding h.status h.retry_after h.body failure (is_success h.status) h.judges) h

@@ -20,77 +20,94 @@ use Rattle.otel_otlp_http.specs.Verdicts.{Judges}
 abbrev pub max_answer : ℕ
 max_answer = 65536
 
+-- what is sent of a batch, and where: none where its resource found no memory
+pub record Asked (R : Type 0) : Type 0 where
+  pub endpoint : PlainEndpoint
+  pub encoding : Encoding
+  pub resource : R
+  pub batch : List PlainSpanData
+
+abbrev pub asking : {R : Type 0} → PlainEndpoint → Encoding → R → List PlainSpanData → Asked R
+asking endpoint encoding resource batch =
+    record { endpoint = endpoint; encoding = encoding; resource = resource; batch = batch }
+
+-- a request that is made: what its answer is read by, and its text
+pub record Made : Type 0 where
+  pub encoding : Encoding
+  pub client : Client
+  pub text : List ℕ
+
+abbrev pub made_of : Asked PlainResource → Made
+made_of asked = record {
+  encoding = asked.encoding;
+  client = batch_client asked.endpoint asked.encoding asked.resource asked.batch;
+  text = batch_request asked.endpoint asked.encoding asked.resource asked.batch;
+}
+
+-- a stream, and whether another request can be sent over it
+pub record Connection (S : Type 0) : Type 0 where
+  pub stream : S
+  pub is_open : Bool
+
+abbrev pub over : {S : Type 0} → S → Bool → Connection S
+over stream is_open = record { stream = stream; is_open = is_open }
+
 -- the contents of a stream are the bytes that were written to it, and what remains are the bytes that reads will give
 module _ {S : Type 0} (contents remaining : S → Option (List ℕ)) where
   -- the request was written whole, and then the head of its answer was read, and the body or no more of it, which says
   -- what came of the batch; the stream stays open where, and only where, another request can be sent
-  pub record IsAnswered (encoding : Encoding) (client : Client) (text : List ℕ) (old : S)
-      (failure : Option ExportFailure) (new : S) (is_open : Bool) : Type 0 where
+  pub record IsAnswered (made : Made) (old : S) (failure : Option ExportFailure) (new : Connection S) : Type 0 where
     pub between : S
     pub received : List ℕ
     pub status : ℕ
     pub retry_after : Option ℕ
     pub body : Result (List ℕ) AnswerError
-    pub writes : Appends (contents old) (contents between) text
-    pub reads : Consumes (remaining between) (remaining new) received
-    pub answer : AnswersBy client received (remaining new) max_answer status retry_after body is_open
-    pub judges : Judges encoding status retry_after body failure
+    pub writes : Appends (contents old) (contents between) made.text
+    pub reads : Consumes (remaining between) (remaining new.stream) received
+    pub answer :
+        AnswersBy made.client received (remaining new.stream) max_answer status retry_after body new.is_open
+    pub judges : Judges made.encoding status retry_after body failure
 
   -- the request was written whole, and there is no answer in what was received, by the error
-  pub record IsUnanswered (client : Client) (text : List ℕ) (old : S) (error : AnswerError) (new : S)
-      (is_open : Bool) : Type 0 where
+  pub record IsUnanswered (made : Made) (old : S) (error : AnswerError) (new : Connection S) : Type 0 where
     pub between : S
     pub received : List ℕ
-    pub writes : Appends (contents old) (contents between) text
-    pub reads : Consumes (remaining between) (remaining new) received
-    pub why : HasNoAnswer client received (remaining new) error
-    pub closes : is_open ≡ false
+    pub writes : Appends (contents old) (contents between) made.text
+    pub reads : Consumes (remaining between) (remaining new.stream) received
+    pub why : HasNoAnswer made.client received (remaining new.stream) error
+    pub closes : new.is_open ≡ false
 
   -- a beginning of the request was written, or all of it but for its sending on
-  pub record IsUnwritten (text : List ℕ) (old new : S) (is_open : Bool) : Type 0 where
-    pub writes : AppendsBeginning (contents old) (contents new) text
-    pub closes : is_open ≡ false
+  pub record IsUnwritten (text : List ℕ) (old : S) (new : Connection S) : Type 0 where
+    pub writes : AppendsBeginning (contents old) (contents new.stream) text
+    pub closes : new.is_open ≡ false
 
   -- what became of a request, by the failure
-  abbrev pub Exchanges : Encoding → Client → List ℕ → S → Option ExportFailure → S → Bool → Type 0
-  Exchanges encoding client text old (Some (failures.Unanswered error)) new is_open =
-      IsUnanswered client text old error new is_open
-  Exchanges encoding client text old (Some (failures.Unwritten kind)) new is_open =
-      IsUnwritten text old new is_open
-  Exchanges encoding client text old failure new is_open = IsAnswered encoding client text old failure new is_open
-
-  -- nothing was sent
-  pub record IsUntouched (old new : S) (was_open is_open : Bool) : Type 0 where
-    pub stream : new ≡ old
-    pub open_is : is_open ≡ was_open
+  abbrev pub Exchanges : Made → S → Option ExportFailure → Connection S → Type 0
+  Exchanges made old (Some (failures.Unanswered error)) new = IsUnanswered made old error new
+  Exchanges made old (Some (failures.Unwritten kind)) new = IsUnwritten made.text old new
+  Exchanges made old failure new = IsAnswered made old failure new
 
   -- there is no request of the batch, for a reason that holds, and nothing was sent
-  pub record IsUnmade (endpoint : PlainEndpoint) (encoding : Encoding) (resource : PlainResource)
-      (batch : List PlainSpanData) (failure : Option ExportFailure) (old new : S) (was_open is_open : Bool) : Type 0
-    where
-      pub unmade : PostError
-      pub failure_is : failure ≡ Some (failures.Unmade unmade)
-      pub refuses : Unmakes endpoint encoding resource batch unmade
-      pub untouched : IsUntouched old new was_open is_open
+  pub record IsUnmade (asked : Asked PlainResource) (old : Connection S) (failure : Option ExportFailure)
+      (new : Connection S) : Type 0 where
+    pub unmade : PostError
+    pub failure_is : failure ≡ Some (failures.Unmade unmade)
+    pub refuses : Unmakes asked.endpoint asked.encoding asked.resource asked.batch unmade
+    pub untouched : new ≡ old
 
   -- the request of the batch was sent, or there was none
-  abbrev pub Sends : PlainEndpoint → Encoding → PlainResource → List PlainSpanData → S → Bool → Option ExportFailure → S
-      → Bool → Type 0
-  Sends endpoint encoding resource batch old was_open failure new is_open =
-      IsUnmade endpoint encoding resource batch failure old new was_open is_open
-      ⊎ Exchanges encoding (batch_client endpoint encoding resource batch)
-      (batch_request endpoint encoding resource batch) old failure new is_open
+  abbrev pub Sends : Asked PlainResource → Connection S → Option ExportFailure → Connection S → Type 0
+  Sends asked old failure new = IsUnmade asked old failure new ⊎ Exchanges (made_of asked) old.stream failure new
 
-  abbrev pub SendsOf : PlainEndpoint → Encoding → Option PlainResource → List PlainSpanData → S → Bool
-      → Option ExportFailure → S → Bool → Type 0
-  SendsOf endpoint encoding (Some resource) batch old was_open failure new is_open =
-      Sends endpoint encoding resource batch old was_open failure new is_open
-  SendsOf endpoint encoding None batch old was_open failure new is_open =
-      (failure ≡ Some failures.NoResource) × IsUntouched old new was_open is_open
+  abbrev pub SendsOf : Asked (Option PlainResource) → Option PlainResource → Connection S → Option ExportFailure
+      → Connection S → Type 0
+  SendsOf asked (Some resource) old failure new =
+      Sends (asking asked.endpoint asked.encoding resource asked.batch) old failure new
+  SendsOf asked None old failure new = (failure ≡ Some failures.NoResource) × (new ≡ old)
 
   -- one try: nothing is sent over a stream that is closed
-  abbrev pub Attempts : PlainEndpoint → Encoding → Option PlainResource → List PlainSpanData → S → Bool
-      → Option ExportFailure → S → Bool → Type 0
-  Attempts endpoint encoding resource batch old was_open failure new is_open =
-      MatchBool was_open (SendsOf endpoint encoding resource batch old was_open failure new is_open)
-      ((failure ≡ Some failures.Closed) × IsUntouched old new was_open is_open)
+  abbrev pub Attempts : Asked (Option PlainResource) → Connection S → Option ExportFailure → Connection S → Type 0
+  Attempts asked old failure new =
+      MatchBool old.is_open (SendsOf asked asked.resource old failure new)
+      ((failure ≡ Some failures.Closed) × (new ≡ old))

@@ -1,5 +1,5 @@
 -- The exporter that posts each batch.
-use Rattle.std.specs.Prelude.{◌≡◌, ◌⊎◌, ℕ, Bool, true, false, List, [], ◌∷◌, ◌++◌, Option, Some, None, Result, Ok, Err}
+use Rattle.std.specs.Prelude.{◌≡◌, ◌⊎◌, ℕ, Bool, true, false, List, [], ◌∷◌, ◌++◌, Option, Some, None, Result, Err}
 use Rattle.std.specs.Prelude.{if◌then◌else◌}
 use Rattle.std.specs.Bool.{MatchBool}
 use Rattle.otel_resource.specs.Resource.{PlainResource}
@@ -12,7 +12,7 @@ use Rattle.otel_http_post.specs.Endpoint.{PlainEndpoint}
 use Rattle.otel_otlp_http.specs.declared.encoding.Encoding.{Encoding}
 use Rattle.otel_otlp_http.specs.declared.failure.ExportFailure.{ExportFailure}
 use Rattle.otel_otlp_http.specs.declared.failure.ExportFailure.TheVariants as failures
-use Rattle.otel_otlp_http.specs.Attempts.{Attempts}
+use Rattle.otel_otlp_http.specs.Attempts.{Asked, Attempts, Connection, asking, over}
 use Rattle.otel_otlp_http.specs.Failures.{AnswersFor, is_kept}
 
 -- where it sends and how, over which stream and whether over it; the batches that were taken until one was not, those
@@ -61,12 +61,18 @@ abbrev pub unsent_after : Option ExportFailure → List PlainSpanData → List (
     → List (List PlainSpanData)
 unsent_after failure batch unsent = if is_kept failure then unsent ++ batch ∷ [] else unsent
 
+-- what an exporter sends of a batch, and over what
+abbrev pub asked_of : {S : Type 0} → HttpExporter S → List PlainSpanData → Asked (Option PlainResource)
+asked_of exporter batch = asking exporter.endpoint exporter.encoding exporter.resource batch
+
+abbrev pub connection_of : {S : Type 0} → HttpExporter S → Connection S
+connection_of exporter = over exporter.stream exporter.is_open
+
 module _ {S : Type 0} (contents remaining : S → Option (List ℕ)) where
   -- a batch was tried
   pub record Tries (old : HttpExporter S) (batch : List PlainSpanData) (answer : Result (Unit {0}) OTelSdkError)
       (new : HttpExporter S) : Type 0 where
-    pub stream : Attempts contents remaining old.endpoint old.encoding old.resource batch old.stream old.is_open
-        new.failure new.stream new.is_open
+    pub stream : Attempts contents remaining (asked_of old batch) (connection_of old) new.failure (connection_of new)
     pub answer_is : AnswersFor new.failure answer
     pub taken : new.taken ≡ taken_after new.failure batch old.taken
     pub unsent : new.unsent ≡ unsent_after new.failure batch old.unsent

@@ -2,7 +2,7 @@
 
 ghost use Rattle.std.specs.Prelude.{◌≡◌};
 ghost use Rattle.otel_http_post.specs.Request.{HasAsked};
-ghost use Rattle.otel_otlp_http.specs.Attempts.{Attempts, Exchanges};
+ghost use Rattle.otel_otlp_http.specs.Attempts.{Attempts, Exchanges, asking, over};
 
 use crate::encoding::Encoding;
 use crate::failure::ExportFailure;
@@ -26,8 +26,9 @@ fn exchange<S: Read + Write>(
     stream: &mut S,
     is_open: &mut bool,
 ) -> Option<ExportFailure>
-    ensures { HasAsked post.client → Exchanges S.contents S.remaining encoding post.client post.text.items
-        stream.old result stream.new is_open.new }
+    ensures { HasAsked post.client → Exchanges S.contents S.remaining
+        (record { encoding = encoding; client = post.client; text = post.text.items }) stream.old result
+        (over stream.new is_open.new) }
 {
     *is_open = false;
     if let Err(error) = write_whole(stream, &post.text) {
@@ -52,8 +53,8 @@ pub(crate) fn attempt<S: Read + Write>(
     stream: &mut S,
     is_open: &mut bool,
 ) -> Option<ExportFailure>
-    ensures { Attempts S.contents S.remaining endpoint.now encoding resource.now batch.now
-        stream.old is_open.old result stream.new is_open.new }
+    ensures { Attempts S.contents S.remaining (asking endpoint.now encoding resource.now batch.now)
+        (over stream.old is_open.old) result (over stream.new is_open.new) }
 {
     if !*is_open {
         return Some(ExportFailure::Closed);

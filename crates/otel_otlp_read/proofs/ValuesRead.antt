@@ -4,11 +4,11 @@ use Rattle.std.proofs.Common.{Some, None, Option, Result, Ok, FitsSigned, refl, 
 use Rattle.std.proofs.Common.{option_map}
 use Rattle.std.proofs.lemmas.List.Concat.{flat_map-cons}
 use Rattle.std.specs.Bool.{passes}
-use Rattle.std.specs.Float.Ieee.{Float, binary64, nan, inf, fin}
+use Rattle.std.specs.Float.Ieee.{Float, nan, inf, fin}
 use Rattle.std.specs.Fmt.{signed_decimal}
 use Rattle.std.specs.Int.{w64}
 use Rattle.std.specs.List.{AllByRecursion, join_with_byte}
-use Rattle.fast_float.specs.Parse.{parse_float, read_float}
+use Rattle.fast_float.specs.Parse.{read_float}
 use Rattle.fast_float.specs.Text.{scan}
 use Rattle.json.specs.Json.{Json}
 use Rattle.json.specs.Json as json

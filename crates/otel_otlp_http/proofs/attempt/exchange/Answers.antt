@@ -3,6 +3,7 @@ use Rattle.std.proofs.Common.{ℕ, List, subst}
 use Rattle.std.specs.Io.KnownBytes.{Appends}
 use Rattle.std.specs.Result.{result_map_both}
 use Rattle.otel_otlp_http.proofs.AttemptLemmas.{answered_exchange}
+use Rattle.otel_otlp_http.specs.Attempts.{Connection, Made}
 use Rattle.otel_otlp_http.proofs.attempt.exchange.Goals as goal
 
 pub returns-in-Ok : goal.returns-in-Ok
@@ -11,9 +12,13 @@ returns-in-Ok g c = λ asked.
     let answer = c.in-Ok.answer in
     let sent = λ (bs : List ℕ).
     Appends (g.S.Write.contents c.args.stream.now) (g.S.Write.contents c.write_whole.new.writer) bs in
-    answered_exchange g.S.Write.contents g.S.Read.remaining c.args.encoding c.args.post.client
-    c.args.post.text.items c.args.stream.now
-    c.read_answer.new.reader answer.keeps c.judge.result (record {
+    let made : Made = record {
+      encoding = c.args.encoding;
+      client = c.args.post.client;
+      text = c.args.post.text.items;
+    } in
+    let left : Connection _ = record { stream = c.read_answer.new.reader; is_open = answer.keeps } in
+    answered_exchange g.S.Write.contents g.S.Read.remaining made c.args.stream.now left c.judge.result (record {
       between = c.write_whole.new.writer;
       received = read.0;
       status = answer.status;
