@@ -3,7 +3,7 @@ use Rattle.std.proofs.Common.{◌≡◌, ℕ, ◌==◌, ◌∙◌, Bool, true, f
 use Rattle.std.specs.Prelude.{Result, Ok, Err, ◌^◌, nat_lt}
 use Rattle.std.specs.Bool.{MatchBool}
 use Rattle.otel_http_post.specs.declared.error.AnswerError.{AnswerError}
-use Rattle.otel_otlp_http.specs.declared.encoding.Encoding.{Encoding}
+use Rattle.otel_otlp_protobuf.specs.declared.encoding.Encoding.{Encoding}
 use Rattle.otel_otlp_http.specs.declared.failure.ExportFailure.{ExportFailure}
 use Rattle.otel_otlp_http.specs.declared.failure.ExportFailure.TheVariants as failures
 use Rattle.otel_otlp_http.specs.Attempts.{Connection, Exchanges, IsAnswered, Made}

@@ -10,7 +10,7 @@ use Rattle.otel_http_post.specs.declared.error.AnswerError.{AnswerError}
 use Rattle.otel_http_post.specs.declared.error.PostError.{PostError}
 use Rattle.otel_http_post.specs.Answer.{AnswersBy, HasNoAnswer}
 use Rattle.otel_http_post.specs.Endpoint.{PlainEndpoint}
-use Rattle.otel_otlp_http.specs.declared.encoding.Encoding.{Encoding}
+use Rattle.otel_otlp_protobuf.specs.declared.encoding.Encoding.{Encoding}
 use Rattle.otel_otlp_http.specs.declared.failure.ExportFailure.{ExportFailure}
 use Rattle.otel_otlp_http.specs.declared.failure.ExportFailure.TheVariants as failures
 use Rattle.otel_otlp_http.specs.Requests.{Unmakes, batch_client, batch_request}

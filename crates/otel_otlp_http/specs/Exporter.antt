@@ -9,7 +9,7 @@ use Rattle.otel_export.specs.declared.error.OTelSdkError.TheVariants as errors
 use Rattle.otel_export.specs.PlainSpanData.{PlainSpanData}
 use Rattle.otel_export.specs.Telling.{and_then_told}
 use Rattle.otel_http_post.specs.Endpoint.{PlainEndpoint}
-use Rattle.otel_otlp_http.specs.declared.encoding.Encoding.{Encoding}
+use Rattle.otel_otlp_protobuf.specs.declared.encoding.Encoding.{Encoding}
 use Rattle.otel_otlp_http.specs.declared.failure.ExportFailure.{ExportFailure}
 use Rattle.otel_otlp_http.specs.declared.failure.ExportFailure.TheVariants as failures
 use Rattle.otel_otlp_http.specs.Attempts.{Asked, Attempts, Connection, asking, over}

@@ -1,20 +1,17 @@
 -- The request of a batch (OTLP 1.7, "OTLP/HTTP").
-use Rattle.std.specs.Prelude.{ℕ, List, codes, length}
+use Rattle.std.specs.Prelude.{ℕ, List, length}
 use Rattle.http1.specs.declared.client.Client.{Client}
 use Rattle.otel_resource.specs.Resource.{PlainResource}
 use Rattle.otel_export.specs.PlainSpanData.{PlainSpanData}
 use Rattle.otel_otlp.specs.Otlp.{otlp_text}
+use Rattle.otel_otlp_protobuf.specs.Encodings.{content_type}
 use Rattle.otel_otlp_protobuf.specs.NamedRequest.{request_bytes}
 use Rattle.otel_http_post.specs.Endpoint.{PlainEndpoint}
 use Rattle.otel_http_post.specs.declared.error.PostError.{PostError}
 use Rattle.otel_http_post.specs.Refusal.{RefusesPost}
 use Rattle.otel_http_post.specs.Request.{asked_client, post_headers, post_text}
-use Rattle.otel_otlp_http.specs.declared.encoding.Encoding.{Encoding}
-use Rattle.otel_otlp_http.specs.declared.encoding.Encoding.TheVariants as encodings
-
-abbrev pub content_type : Encoding → List ℕ
-content_type encodings.Protobuf = codes "application/x-protobuf"
-content_type encodings.Json = codes "application/json"
+use Rattle.otel_otlp_protobuf.specs.declared.encoding.Encoding.{Encoding}
+use Rattle.otel_otlp_protobuf.specs.declared.encoding.Encoding.TheVariants as encodings
 
 -- the body of a batch: its request in protobuf, or in JSON
 abbrev pub body_bytes : Encoding → PlainResource → List PlainSpanData → List ℕ

@@ -4,8 +4,8 @@ use Rattle.std.specs.Str.{IsUtf8}
 use Rattle.json.specs.Find.{get}
 use Rattle.json.specs.Json.{Json, null, boolean, number, string, array, object, document}
 use Rattle.otel_http_post.specs.Count.{count_in}
-use Rattle.otel_otlp_http.specs.declared.encoding.Encoding.{Encoding}
-use Rattle.otel_otlp_http.specs.declared.encoding.Encoding.TheVariants as encodings
+use Rattle.otel_otlp_protobuf.specs.declared.encoding.Encoding.{Encoding}
+use Rattle.otel_otlp_protobuf.specs.declared.encoding.Encoding.TheVariants as encodings
 use Rattle.otel_otlp_http.specs.ProtobufSuccess.{rejected_in}
 
 -- a count: a text of digits, as 64 bits are written in JSON, or a number; where there is none it is 0

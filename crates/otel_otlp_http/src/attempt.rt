@@ -4,13 +4,13 @@ ghost use Rattle.std.specs.Prelude.{◌≡◌};
 ghost use Rattle.otel_http_post.specs.Request.{HasAsked};
 ghost use Rattle.otel_otlp_http.specs.Attempts.{Attempts, Exchanges, asking, over};
 
-use crate::encoding::Encoding;
 use crate::failure::ExportFailure;
 use crate::request::make_request;
 use crate::verdict::judge;
 use otel_export::stream::write_whole;
 use otel_export::trace::SpanData;
 use otel_http_post::{Endpoint, Post, read_answer};
+use otel_otlp_protobuf::Encoding;
 use otel_resource::resource::Resource;
 use std::alloc::Global;
 use std::io::{Read, Write};

@@ -6,12 +6,12 @@ ghost use Rattle.otel_otlp_http.specs.Exporter.{new_exporter};
 ghost use Rattle.otel_otlp_http.specs.Failures.{is_kept};
 
 use crate::attempt::attempt;
-use crate::encoding::Encoding;
 use crate::failure::ExportFailure;
 use otel_export::error::{OTelSdkError, OTelSdkResult};
 use otel_export::history::History;
 use otel_export::trace::{SpanData, SpanExporter};
 use otel_http_post::Endpoint;
+use otel_otlp_protobuf::Encoding;
 use otel_resource::resource::Resource;
 use std::alloc::Global;
 use std::io::{Read, Write};

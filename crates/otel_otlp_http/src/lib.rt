@@ -3,7 +3,6 @@
 #![tactic(auto)]
 
 mod attempt;
-mod encoding;
 mod exporter;
 mod failure;
 mod protobuf;
@@ -11,7 +10,7 @@ mod request;
 mod success;
 mod verdict;
 
-pub use encoding::Encoding;
 pub use exporter::OtlpHttpExporter;
 pub use failure::ExportFailure;
 pub use otel_http_post::{AnswerError, Endpoint, PostError};
+pub use otel_otlp_protobuf::Encoding;

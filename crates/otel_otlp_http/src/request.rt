@@ -3,11 +3,10 @@
 ghost use Rattle.std.specs.Prelude.{◌≡◌, IfErr, IfOk, OnOk};
 ghost use Rattle.otel_otlp_http.specs.Requests.{Unmakes, batch_client, batch_request, body_bytes};
 
-use crate::encoding::Encoding;
 use otel_export::trace::SpanData;
 use otel_http_post::{Endpoint, Post, PostError, make_post};
 use otel_otlp::write_request;
-use otel_otlp_protobuf::write_request_protobuf;
+use otel_otlp_protobuf::{Encoding, write_request_protobuf};
 use otel_resource::resource::Resource;
 use std::alloc::{AllocError, Global};
 

@@ -4,10 +4,10 @@ ghost use Rattle.std.specs.Prelude.{◌≡◌, IfOk, OnErr, Some};
 ghost use Rattle.json.specs.Value.{value_view};
 ghost use Rattle.otel_otlp_http.specs.Success.{NeedsMemory, Rejects, SaysJson, count_of, rejected_in_json, rejected_of};
 
-use crate::encoding::Encoding;
 use crate::protobuf::rejected_in_protobuf;
 use json::{Error, Scratch, Value};
 use otel_http_post::read_count;
+use otel_otlp_protobuf::Encoding;
 use std::alloc::{AllocError, Global};
 
 /// A count in JSON: a text of digits, as 64 bits are written there, or a number.

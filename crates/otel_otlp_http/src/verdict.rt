@@ -4,10 +4,10 @@ ghost use Rattle.std.specs.Prelude.{◌≡◌};
 ghost use Rattle.std.specs.Result.{result_map_both};
 ghost use Rattle.otel_otlp_http.specs.Verdicts.{Judges, by_rejected, is_retryable, is_success, unless_success};
 
-use crate::encoding::Encoding;
 use crate::failure::ExportFailure;
 use crate::success::rejected_spans;
 use otel_http_post::Answer;
+use otel_otlp_protobuf::Encoding;
 use std::alloc::Global;
 
 /// Whether a status is of success.

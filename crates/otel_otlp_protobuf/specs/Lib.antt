@@ -1,3 +1,4 @@
+pub mod Encodings
 pub mod NamedRequest
 pub mod NamedSpan
 pub mod NamedValues

@@ -4,6 +4,7 @@
 #![tactic(auto)]
 
 mod delimited;
+mod encoding;
 pub mod laws;
 mod message;
 mod request;
@@ -12,4 +13,5 @@ mod value;
 mod write;
 
 pub use delimited::{OtlpDelimited, OtlpDelimitedExporter, write_delimited_requests};
+pub use encoding::Encoding;
 pub use request::write_request_protobuf;

@@ -1,9 +1,9 @@
-//! How a batch is written in a request, and what a success says in its answer.
+//! The encodings of the protocol.
 
 ghost use Rattle.std.specs.Prelude.{◌≡◌};
-ghost use Rattle.otel_otlp_http.specs.Requests.{content_type};
+ghost use Rattle.otel_otlp_protobuf.specs.Encodings.{content_type};
 
-/// The two encodings of OTLP over HTTP.
+/// How a batch is written.
 #[derive(Clone, Copy, Debug, PartialEq, Eq)]
 pub enum Encoding {
     /// The bytes of protobuf.
