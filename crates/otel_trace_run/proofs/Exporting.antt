@@ -27,8 +27,8 @@ use Rattle.otel_trace_run.specs.Program.{BeginsExporting, ExportsAsked, IsProvid
 use Rattle.otel_trace_run.specs.Streams.{EndsAs, Streams}
 use Rattle.otel_trace_run.specs.TraceRuns.{CarriesOutSome, ClosesSome, TracesBegun, TracesSome, TracesWhole}
 use Rattle.otel_trace_run.specs.declared.mode.AskedExport.{AskedExport}
-use Rattle.otel_trace_run.specs.declared.mode.Encoding.{Encoding}
-use Rattle.otel_trace_run.specs.declared.mode.Encoding.TheVariants as encodings
+use Rattle.otel_otlp_protobuf.specs.declared.encoding.Encoding.{Encoding}
+use Rattle.otel_otlp_protobuf.specs.declared.encoding.Encoding.TheVariants as encodings
 use Rattle.otel_trace_run.specs.declared.run_end.RunEnd.{RunEnd}
 use Rattle.otel_trace_run.specs.declared.run_end.RunEnd.TheVariants as ends
 use Rattle.otel_trace_run.proofs.TraceEnds.{all_begun, whole_begun}

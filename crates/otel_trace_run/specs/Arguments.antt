@@ -10,8 +10,8 @@ use Rattle.otel_trace_run.specs.declared.mode.Asked.{Asked}
 use Rattle.otel_trace_run.specs.declared.mode.AskedExport.{AskedExport}
 use Rattle.otel_trace_run.specs.declared.mode.AskedProcessor.{AskedProcessor}
 use Rattle.otel_trace_run.specs.declared.mode.AskedProcessor.TheVariants as asks
-use Rattle.otel_trace_run.specs.declared.mode.Encoding.{Encoding}
-use Rattle.otel_trace_run.specs.declared.mode.Encoding.TheVariants as encodings
+use Rattle.otel_otlp_protobuf.specs.declared.encoding.Encoding.{Encoding}
+use Rattle.otel_otlp_protobuf.specs.declared.encoding.Encoding.TheVariants as encodings
 use Rattle.otel_trace_run.specs.declared.mode.Mode.{Mode}
 use Rattle.otel_trace_run.specs.declared.mode.Mode.TheVariants as modes
 use Rattle.otel_trace_run.specs.declared.picture.PictureForm.{PictureForm}

@@ -12,8 +12,8 @@ use Rattle.otel_otlp_protobuf.specs.NamedRequest.{delimited_requests}
 use Rattle.otel_pipeline.specs.Provider.{ProviderState}
 use Rattle.otel_trace_run.specs.Streams.{EndsAs, Streams}
 use Rattle.otel_trace_run.specs.TraceRuns.{TracesBegun, TracesSome, TracesWhole}
-use Rattle.otel_trace_run.specs.declared.mode.Encoding.{Encoding}
-use Rattle.otel_trace_run.specs.declared.mode.Encoding.TheVariants as encodings
+use Rattle.otel_otlp_protobuf.specs.declared.encoding.Encoding.{Encoding}
+use Rattle.otel_otlp_protobuf.specs.declared.encoding.Encoding.TheVariants as encodings
 use Rattle.otel_trace_run.specs.declared.run_end.RunEnd.{RunEnd}
 use Rattle.otel_trace_session.specs.Calls.{Calls, stored_of_first}
 use Rattle.otel_trace_session.specs.Shown.{all_stored}

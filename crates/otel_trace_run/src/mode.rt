@@ -11,6 +11,7 @@ ghost use Rattle.otel_trace_run.specs.Words.{decimal_in};
 
 use crate::given_attributes::unread_member;
 use crate::picture::PictureForm;
+use otel_otlp_protobuf::Encoding;
 use otel_picture::layout::COLUMNS;
 use otel_trace_lines::fields::parse_decimal;
 use otel_trace_steps::Sizes;
@@ -62,15 +63,6 @@ pub struct Asked {
 pub struct AskedExport {
     pub encoding: Encoding,
     pub asked: Asked,
-}
-
-/// How a batch is written.
-#[derive(Clone, Copy, Debug, PartialEq, Eq)]
-pub enum Encoding {
-    /// As a line of JSON.
-    Json,
-    /// As the bytes of protobuf, after how many they are.
-    Protobuf,
 }
 
 /// The processor that such a mode is asked for.

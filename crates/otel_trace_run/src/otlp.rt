@@ -8,12 +8,11 @@ ghost use Rattle.otel_trace_run.specs.Program.{strings_given};
 ghost use Rattle.otel_trace_run.specs.Streams.{streams};
 ghost use Rattle.otel_trace_session.specs.Calls.{calls_of};
 
-use crate::mode::Encoding;
 use crate::run_end::RunEnd;
 use crate::trace_stream::trace_input;
 use otel_export::trace::SpanData;
 use otel_otlp::write_requests;
-use otel_otlp_protobuf::write_delimited_requests;
+use otel_otlp_protobuf::{Encoding, write_delimited_requests};
 use otel_pipeline::trace::{KeepsBatches, ProviderOf};
 use otel_resource::resource::{Resource, ResourceStrings};
 use otel_sampling::trace::{GivesIds, ShouldSample};
@@ -33,8 +32,8 @@ struct OtlpRequests {
 impl Model for OtlpRequests {
     ghost use Rattle.std.specs.Coded.{codes};
     ghost use Rattle.otel_resource.specs.ResourceCode.{resource_code};
+    ghost use Rattle.otel_otlp_protobuf.specs.contracts.encoding.Encoding.{the_row};
     ghost use Rattle.otel_trace_run.specs.OtlpRuns.{Encoded};
-    ghost use Rattle.otel_trace_run.specs.contracts.mode.Encoding.{the_row};
 
     ghost Value = { Encoded };
 
