@@ -69,3 +69,7 @@ pub record SpanFits (span : PlainSpanData) : Type 0 where
 -- the values of a resource fit
 abbrev pub ResourceFits : PlainResource → Type 0
 ResourceFits resource = AllByRecursion PairFits (entries resource.attributes)
+
+-- a batch and its resource fit
+abbrev pub RequestFits : PlainResource → List PlainSpanData → Type 0
+RequestFits resource batch = ResourceFits resource × AllByRecursion SpanFits batch

@@ -1,6 +1,6 @@
 -- What the JSON of a batch tells of it. Three things have no word there: whether a span's own context is remote, of
 -- which kind an empty list of values is, and whether a version or a schema of a scope is empty or not given.
-use Rattle.std.specs.Prelude.{ℕ, false, List, [], ◌∷◌, Some, map}
+use Rattle.std.specs.Prelude.{◌≡◌, ℕ, false, List, [], ◌∷◌, Some, map}
 use Rattle.std.specs.FinMap.{entries}
 use Rattle.opentelemetry.specs.Plain.{PlainEvent, PlainKeyValue, PlainLink, PlainScope}
 use Rattle.opentelemetry.specs.Plain.{PlainValue, boolean, integer, text, booleans, integers, texts, double, doubles}
@@ -60,3 +60,8 @@ seen_span span = record span {
 -- a resource: its attributes in the order of their keys, and its schema
 abbrev pub seen_resource : PlainResource → List (List ℕ × PlainValue) × List ℕ
 seen_resource resource = (map seen_pair (entries resource.attributes), resource.schema_url)
+
+-- two batches and their resources are seen alike
+abbrev pub AreSeenAlike : PlainResource → PlainResource → List PlainSpanData → List PlainSpanData → Type 0
+AreSeenAlike these those batch other =
+    (seen_resource these ≡ seen_resource those) × (map seen_span batch ≡ map seen_span other)

@@ -1,12 +1,11 @@
 //! The laws of requests. Nothing needs to call these functions: their contracts are the laws.
 
-ghost use Rattle.std.specs.Prelude.{◌≡◌, List, map};
-ghost use Rattle.std.specs.List.{AllByRecursion};
+ghost use Rattle.std.specs.Prelude.{◌≡◌, List};
 ghost use Rattle.otel_resource.specs.Resource.{PlainResource};
 ghost use Rattle.otel_export.specs.PlainSpanData.{PlainSpanData};
-ghost use Rattle.otel_otlp.specs.Fits.{ResourceFits, SpanFits};
+ghost use Rattle.otel_otlp.specs.Fits.{RequestFits};
 ghost use Rattle.otel_otlp.specs.Otlp.{request};
-ghost use Rattle.otel_otlp.specs.Seen.{seen_resource, seen_span};
+ghost use Rattle.otel_otlp.specs.Seen.{AreSeenAlike};
 ghost use Rattle.otel_otlp_protobuf.specs.NamedRequest.{request_bytes, request_members};
 ghost use Rattle.otel_otlp_protobuf.specs.Said.{message_fields, object_json};
 ghost use Rattle.otel_protobuf.specs.Reading.{ReadsAs};
@@ -36,15 +35,12 @@ pub fn requests_read_back(resource: &Resource, batch: &[SpanData])
 /// The bytes of a batch and its resource are of one request: two that have the same bytes have the same one, and so are
 /// seen alike. The numbers of members tell them apart.
 pub fn bytes_lose_nothing()
-    ensures once { (these those : PlainResource) (batch other : List PlainSpanData)
-        → ResourceFits these → ResourceFits those
-        → AllByRecursion SpanFits batch → AllByRecursion SpanFits other
-        → request_bytes these batch ≡ request_bytes those other → request these batch ≡ request those other }
-    ensures seen { (these those : PlainResource) (batch other : List PlainSpanData)
-        → ResourceFits these → ResourceFits those
-        → AllByRecursion SpanFits batch → AllByRecursion SpanFits other
-        → request_bytes these batch ≡ request_bytes those other
-        → (seen_resource these ≡ seen_resource those) × (map seen_span batch ≡ map seen_span other) }
+    ensures once { (these those : PlainResource) (batch other : List PlainSpanData) → RequestFits these batch
+        → RequestFits those other → request_bytes these batch ≡ request_bytes those other
+        → request these batch ≡ request those other }
+    ensures seen { (these those : PlainResource) (batch other : List PlainSpanData) → RequestFits these batch
+        → RequestFits those other → request_bytes these batch ≡ request_bytes those other
+        → AreSeenAlike these those batch other }
 {
     json_loses_nothing();
 }

@@ -8,7 +8,7 @@ returns c = λ resource batches fits all utf8.
     input_back resource batches
     (each_reads resource batches (λ batch spans text. record {
       json = json_back (otlp_text resource batch) (request resource batch) text
-          (c.lines_read_back.ensures.document resource batch fits spans);
+          (c.lines_read_back.ensures.document resource batch (fits, spans));
       spans = c.what_is_written_is_read.ensures.text resource batch fits spans text;
     }) all utf8)
     (c.lines_are_cut.ensures resource batches)

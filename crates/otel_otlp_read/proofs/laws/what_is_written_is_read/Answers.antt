@@ -11,5 +11,5 @@ returns-clause-request c = λ resource batch fits all.
 pub returns-clause-text : goal.returns-clause-text
 returns-clause-text c = λ resource batch fits all utf8.
     document_back (otlp_text resource batch) (request resource batch) _ utf8
-    (c.lines_read_back.ensures.document resource batch fits all)
+    (c.lines_read_back.ensures.document resource batch (fits, all))
     (request_back resource batch fits (c.runs_join.ensures.joined batch) (runs_fit batch all))
