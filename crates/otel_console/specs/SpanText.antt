@@ -53,6 +53,13 @@ identity_text span =
     16 span.parent_span_id ∷ hex_text 2 span.span_context.trace_flags
     ∷ decimal span.start_time ∷ decimal span.end_time ∷ span.name ∷ status_text span.status ∷ [])
 
+-- which span it is and when it ran, with a space after each
+abbrev pub ids_and_times_text : PlainSpanData → List ℕ
+ids_and_times_text span =
+    spaced (hex_text 32 span.span_context.trace_id ∷ hex_text 16 span.span_context.span_id
+    ∷ hex_text 16 span.parent_span_id ∷ hex_text 2 span.span_context.trace_flags
+    ∷ decimal span.start_time ∷ decimal span.end_time ∷ [] ∷ [])
+
 -- the attributes of a span that were kept, and how many were not
 abbrev pub attributes_text : PlainSpanData → List ℕ
 attributes_text span =

@@ -156,7 +156,7 @@ fn write_byte(byte: u8, buffer: &mut [u8; ROOM], at: usize)
 
 /// Puts the decimal digits of a number after a text. Most have one.
 #[inline(always)]
-pub fn push_decimal(text: &mut String, number: u64) -> Result<(), AllocError>
+pub(crate) fn push_decimal(text: &mut String, number: u64) -> Result<(), AllocError>
     ensures { OnOk result (TextGrows text.old (decimal number) text.new) }
 {
     if number < 10 {

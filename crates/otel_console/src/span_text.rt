@@ -1,13 +1,11 @@
 //! The text of a span: its line, which the program `otel_trace` prints too.
 
 ghost use Rattle.std.specs.Prelude.{◌≡◌, ◌∷◌, [], IsOk, OnOk};
-ghost use Rattle.std.specs.Fmt.{decimal};
-ghost use Rattle.opentelemetry.specs.Hex.{hex_text};
 ghost use Rattle.opentelemetry.specs.PlainValues.{plain_status};
 ghost use Rattle.opentelemetry.specs.Text.{TextGrows};
 ghost use Rattle.otel_console.specs.SpanText.{attribute_text, attributes_text, comma_before, event_text, events_text};
-ghost use Rattle.otel_console.specs.SpanText.{identity_text, links_text, listed, span_line, span_lines, spaced};
-ghost use Rattle.otel_console.specs.SpanText.{status_text};
+ghost use Rattle.otel_console.specs.SpanText.{identity_text, ids_and_times_text, links_text, listed, span_line};
+ghost use Rattle.otel_console.specs.SpanText.{span_lines, spaced, status_text};
 
 use crate::digits::{Digits, push_decimal};
 use opentelemetry::trace::{Event, Status};
@@ -125,10 +123,7 @@ fn push_events_and_links(text: &mut String, span: &SpanData) -> Result<(), Alloc
 /// Which span it is and when it ran, with a space after each part.
 #[inline(always)]
 fn ids_and_times(span: &SpanData) -> Digits
-    ensures { result ≡ spaced (hex_text 32 span.now.span_context.trace_id
-        ∷ hex_text 16 span.now.span_context.span_id ∷ hex_text 16 span.now.parent_span_id
-        ∷ hex_text 2 span.now.span_context.trace_flags
-        ∷ decimal span.now.start_time ∷ decimal span.now.end_time ∷ [] ∷ []) }
+    ensures { result ≡ ids_and_times_text span.now }
 {
     let mut digits = Digits::new();
     digits.put(b' ');
