@@ -1,6 +1,6 @@
 //! Attributes that are gathered for what comes next.
 
-ghost use Rattle.std.specs.Prelude.{◌≡◌, ◌≢◌, ◌==◌, List, map, not};
+ghost use Rattle.std.specs.Prelude.{◌≡◌, ◌==◌, List, map, not};
 ghost use Rattle.opentelemetry.specs.Plain.{boolean, booleans, double, doubles, integer, integers, text, texts};
 ghost use Rattle.otel_c.specs.Handles.{Answers, Gathers};
 ghost use Rattle.otel_embed.specs.HostValues.{AreTexts, IsValueOf, truth_of};

@@ -1,6 +1,6 @@
 //! Edits of a span.
 
-ghost use Rattle.std.specs.Prelude.{◌≡◌, ◌≢◌, ◌==◌, ◌≤◌, ◌∷◌, [], IfSome, IsSome, map, not};
+ghost use Rattle.std.specs.Prelude.{◌≡◌, ◌==◌, ◌≤◌, ◌∷◌, [], IfSome, IsSome, map, not};
 ghost use Rattle.otel_embed.specs.Keys.{span_at};
 ghost use Rattle.opentelemetry.specs.Plain.{PlainStatus, boolean, double, integer, text};
 ghost use Rattle.otel_pipeline.specs.Exceptions.{exception_event};

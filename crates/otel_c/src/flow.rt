@@ -1,6 +1,6 @@
 //! What becomes of ended spans, and how many are where.
 
-ghost use Rattle.std.specs.Prelude.{◌≡◌, ◌≢◌, ◌≤◌, ◌<◌, ◌⊎◌, IfSome, None, length};
+ghost use Rattle.std.specs.Prelude.{◌≡◌, ◌≢◌, ◌≤◌, ◌<◌, ◌⊎◌, length};
 ghost use Rattle.otel_c.specs.Handles.{FlowsIfOpen, Holds, ShowsNumbers, Turns, TurnsIfOpen};
 ghost use Rattle.otel_embed.specs.Flows.{flushed, ran, shut};
 ghost use Rattle.otel_embed.specs.Pipelines.{CountsIn, DrainsInto, FlowsBy};

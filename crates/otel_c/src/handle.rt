@@ -1,6 +1,6 @@
 //! A pipeline on the heap, as a struct that C keeps.
 ghost use Rattle.otel_c.specs.Kept.{keeps};
-ghost use Rattle.std.specs.Prelude.{◌≡◌, true, false, is_some, IsSome, IfSome, IfNone};
+ghost use Rattle.std.specs.Prelude.{◌≡◌, true, false, is_some, IsSome, IfSome};
 ghost use Rattle.std.specs.contracts.impls.GlobalAllocator.TheImpl.{ghosts};
 ghost use Rattle.std.specs.declared.option.Option.{Option};
 ghost use Rattle.std.specs.declared.option.Option.TheVariants.{None, Some};

@@ -1,7 +1,7 @@
 //! The open spans by their keys. A key is a number from 1 on, names one span, and is not used again.
 
 ghost use Rattle.std.specs.Prelude.{◌≡◌, [], IfErr, IfOk, IsOk, OnErr, OnOk, None, Some, length};
-ghost use Rattle.otel_embed.specs.Keys.{Closes, EditsAt, IsRefusedAt, OpenedSpan, Opens, SameSpans, span_at};
+ghost use Rattle.otel_embed.specs.Keys.{Closes, EditsAt, IsRefusedAt, OpenedSpan, SameSpans, span_at};
 ghost use Rattle.otel_pipeline.specs.Ending.{EndIsInfallible, Ends};
 ghost use Rattle.otel_embed.specs.Flows.{MayStart};
 ghost use Rattle.otel_embed.specs.KeyedSpans.{StartsAt, StartsUnder};

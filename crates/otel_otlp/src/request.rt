@@ -4,7 +4,7 @@ ghost use Rattle.std.specs.Prelude.{◌≡◌, ◌++◌, ◌∷◌, [], OnErr, O
 ghost use Rattle.std.specs.FinMap.{entries};
 ghost use Rattle.json.specs.Json.{document};
 ghost use Rattle.json.specs.Tree.{json_tokens};
-ghost use Rattle.otel_otlp.specs.Fields.{Adds, fields_tokens, list_tokens};
+ghost use Rattle.otel_otlp.specs.Fields.{Adds, list_tokens};
 ghost use Rattle.otel_otlp.specs.Otlp.{otlp_line, otlp_text, request, resource_json, resource_spans_json, run_json};
 ghost use Rattle.otel_otlp.specs.Otlp.{scope_json};
 ghost use Rattle.otel_otlp.specs.OtlpSpan.{span_json};

@@ -1,10 +1,9 @@
 //! The request of a batch: its resource, and its spans by the scopes that made them.
 
 ghost use Rattle.std.specs.Prelude.{◌≡◌, ◌++◌, OnErr, OnOk};
-ghost use Rattle.std.specs.FinMap.{entries};
 ghost use Rattle.std.specs.Option.{option_copied};
 ghost use Rattle.otel_otlp.specs.Otlp.{or_empty};
-ghost use Rattle.otel_otlp.specs.ScopeRuns.{run_scope, scope_runs};
+ghost use Rattle.otel_otlp.specs.ScopeRuns.{scope_runs};
 ghost use Rattle.otel_otlp_protobuf.specs.NamedRequest.{delimited_bytes, request_bytes};
 ghost use Rattle.otel_otlp_protobuf.specs.NamedRequest.{request_members, resource_members};
 ghost use Rattle.otel_otlp_protobuf.specs.NamedRequest.{resource_spans_members, run_members, scope_members};
