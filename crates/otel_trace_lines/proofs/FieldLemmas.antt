@@ -1,20 +1,20 @@
 -- A text has one first field, so what stands after it is determined.
-use Rattle.std.proofs.Common.{◌≡◌, ◌≢◌, ℕ, ℤ, Bool, true, List, [], ◌∷◌, ◌++◌, Option, None, Some, All, IsUtf8, codes, get_or, refl, sym, ap, subst, ◌∙◌, arith, rules}
+use Rattle.std.proofs.Common.{◌≡◌, ◌≢◌, ℕ, ℤ, Bool, true, List, [], ◌∷◌, ◌++◌, Option, None, Some, All, IsUtf8, codes, refl, sym, ap, subst, ◌∙◌, arith, rules}
 use Rattle.std.specs.Float.{Float}
 use Rattle.std.proofs.lemmas.List.Elements.{All-tail, All-from_recursion}
 use Rattle.otel_trace_lines.specs.Commands.{PlainCommand, plain_command, start, child, remote, attr, event, status, inject, end, flush, run, shutdown, set_int, set_bool, set_float, link, exception, event_with, has_more}
 use Rattle.opentelemetry.specs.Plain.{PlainStatus, unset, error, ok}
 use Rattle.otel_trace_lines.specs.declared.command.Command.{Command}
-use Rattle.otel_trace_lines.specs.Lines.{IsDecimal64, IsField, IsStatus, LineForm, start_form, field, last_field, time, outcome, rest_of_line, whole, truth, float, instant, IsOfForm, form_of, word_of}
+use Rattle.otel_trace_lines.specs.Lines.{IsField, IsStatus, LineForm, start_form, field, last_field, time, outcome, rest_of_line, whole, truth, float, instant, IsOfForm, form_of, word_of}
 use Rattle.otel_trace_lines.specs.Found.{LineGives, HasFields, AreFields, AreFieldsIn, IsCommand, FieldsGive, FieldsGiveIn, WordGives}
 use Rattle.opentelemetry.specs.declared.trace.span_kind.SpanKind.{SpanKind}
 use Rattle.std.specs.Option.{is_some}
-use Rattle.std.proofs.lemmas.Str.Parse.{digit_at}
-use Rattle.std.specs.Int.{IsInRange}
 use Rattle.otel_trace_lines.specs.Dialects.{HasFixedFields, HasWord, MayHave}
 use Rattle.otel_trace_lines.specs.declared.dialect.Dialect.{Dialect}
 use Rattle.otel_trace_lines.specs.declared.dialect.Dialect.TheVariants as dialects
+use Rattle.otel_trace_lines.specs.Numbers.{decimal_in}
 use Rattle.otel_trace_lines.proofs.Cuts.{no_field}
+use Rattle.otel_trace_lines.proofs.Numerals.{number_is_field}
 
 -- what stands in front of the first space, and after it, is determined
 same_parts : (front rest other more : List ℕ) → All (λ b. b ≢ 32) front → All (λ b. b ≢ 32) other → front ++ 32 ∷ rest ≡ other ++ 32 ∷ more → (front ≡ other) × (rest ≡ more)
@@ -141,9 +141,8 @@ one_rest_of_three text s p k rest s' p' k' rest' f g =
     one_rest f.1.0 p k rest p' k' rest' f.1.2 (rw first.1 g.1.2)
 
 -- no space stands among digits
-pub moment_alone : (text digits rest : List ℕ) (moment : ℕ) → IsDecimal64 text moment → text ≡ digits ++ 32 ∷ rest → ⊥
-moment_alone text digits rest moment is e =
-    no_field text digits rest (λ i below space. let range : IsInRange 48 57 (get_or text i 0) = search (rules, digit_at text i) in omega (arith, range.0, space)) e
+pub moment_alone : (text digits rest : List ℕ) (moment : ℕ) → decimal_in text ≡ Some moment → text ≡ digits ++ 32 ∷ rest → ⊥
+moment_alone text digits rest moment is e = no_last_field text text digits rest (number_is_field text moment is) refl e
 
 -- after the word of a line stand the fields of each command as which it reads
 fields_after : (line word fields : List ℕ) → IsField word → line ≡ word ++ 32 ∷ fields → (command : PlainCommand) → IsOfForm line (form_of command) → HasFields word fields (form_of command)

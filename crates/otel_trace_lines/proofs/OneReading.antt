@@ -1,21 +1,14 @@
 -- A line reads as one command at most, so a text spells one list of commands and has one first bad line or none.
-use Rattle.std.proofs.Common.{◌≡◌, ◌≢◌, ℕ, ℤ, Bool, true, false, List, [], ◌∷◌, ◌++◌, length, suc, cond, eqb, get_or, Option, Some, None, refl, sym, ap, ◌∙◌, arith, rules}
-use Rattle.std.specs.Float.{Float, binary64}
-use Rattle.std.specs.Float.Parse.{parse_float}
+use Rattle.std.proofs.Common.{◌≡◌, ◌≢◌, ℕ, List, [], ◌∷◌, ◌++◌, length, suc, Option, Some, None, refl, sym, ap, ◌∙◌, arith, rules}
 use Rattle.std.specs.Str.Lines.{lines}
-use Rattle.std.specs.Str.Parse.{digits_value}
 use Rattle.opentelemetry.specs.Plain.{PlainStatus, unset, error, ok}
 use Rattle.otel_trace_lines.specs.Commands.{PlainCommand, start, child, remote, attr, event, status, inject, end, flush, run, shutdown, set_int, set_bool, set_float, link, exception, event_with, forget}
-use Rattle.otel_trace_lines.specs.Lines.{IsDecimal64, IsStatus, LineForm, field, last_field, time, outcome, rest_of_line, whole, truth, float, instant, sort, start_form, kind_word, IsInteger64, IsTruth, IsOfForm, form_of, Reads, IsBad, Spell, TextSpells}
+use Rattle.otel_trace_lines.specs.Lines.{IsStatus, LineForm, field, last_field, time, outcome, rest_of_line, whole, truth, float, instant, sort, start_form, IsOfForm, form_of, Reads, IsBad, Spell, TextSpells}
 use Rattle.otel_trace_lines.specs.Dialects.{without_comments}
 use Rattle.otel_trace_lines.specs.declared.dialect.Dialect.{Dialect}
 use Rattle.otel_trace_lines.proofs.FieldLemmas.{same_field, no_last_field, moment_alone}
+use Rattle.otel_trace_lines.proofs.Numerals.{one_value}
 use Rattle.opentelemetry.specs.declared.trace.span_kind.SpanKind.{SpanKind}
-use Rattle.opentelemetry.specs.declared.trace.span_kind.SpanKind.TheVariants as kinds
-
--- digits have one moment
-same_moment : (digits others : List ℕ) (moment other : ℕ) → IsDecimal64 digits moment → IsDecimal64 others other → digits ≡ others → moment ≡ other
-same_moment digits others moment other h k e = h.1 ∙ ap (λ ds. digits_value 10 ds) e ∙ sym k.1
 
 -- a text is one status
 same_status : (text : List ℕ) (how other : PlainStatus) → IsStatus text how → IsStatus text other → how ≡ other
@@ -25,36 +18,6 @@ same_status text (error description) (error other) f g = cc
 same_status text (error description) ok f g = cc
 same_status text ok (error description) f g = cc
 same_status text ok ok f g = refl
-
--- a text is one integer, and one truth value
-same_integer : (text : List ℕ) (number other : ℤ) → IsInteger64 text number → IsInteger64 text other → number ≡ other
-same_integer text number other f g = f.3 ∙ sym g.3
-
-same_truth : (text : List ℕ) (value other : Bool) → IsTruth text value → IsTruth text other → value ≡ other
-same_truth text true true f g = refl
-same_truth text true false f g = cc
-same_truth text false true f g = cc
-same_truth text false false f g = refl
-
-same_float_read : (text : List ℕ) (value other : Float) → parse_float binary64 text ≡ Some value → parse_float binary64 text ≡ Some other → value ≡ other
-same_float_read text value other f g = let same : Some value ≡ Some other = sym f ∙ g in cc
-
--- a word is that of one kind: its second letter says which
-kind_by : List ℕ → SpanKind
-kind_by word =
-    let letter = get_or word 1 0 in
-    cond (eqb letter 108) kinds.Client (cond (eqb letter 101) kinds.Server (cond (eqb letter 114) kinds.Producer (cond (eqb letter 111) kinds.Consumer kinds.Internal)))
-
-kind_back : (kind : SpanKind) → kind_by (kind_word kind) ≡ kind
-unfolding kind_by
-kind_back kinds.Internal = refl
-kind_back kinds.Server = refl
-kind_back kinds.Client = refl
-kind_back kinds.Producer = refl
-kind_back kinds.Consumer = refl
-
-pub same_kind : (kind other : SpanKind) → kind_word kind ≡ kind_word other → kind ≡ other
-same_kind kind other e = sym (kind_back kind) ∙ ap kind_by e ∙ kind_back other
 
 -- two forms agree: field by field, and at their ends where these are of one kind
 abbrev pub AreOneForm : LineForm → LineForm → Type 0
@@ -82,18 +45,18 @@ forms_agree text (field front after) (field other more) f g =
 forms_agree text (field front after) (last_field last) f g = no_last_field text last front f.1.0 g.0 g.1 f.1.1
 forms_agree text (last_field last) (field front after) f g = no_last_field text last front g.1.0 f.0 f.1 g.1.1
 forms_agree text (last_field last) (last_field other) f g = sym f.1 ∙ g.1
-forms_agree text (time moment) (time other) f g = same_moment text text moment other f g refl
+forms_agree text (time moment) (time other) f g = one_value f g
 forms_agree text (outcome how) (outcome other) f g = same_status text how other f g
 forms_agree text (rest_of_line rest) (rest_of_line other) f g = sym f ∙ g
-forms_agree text (whole number) (whole other) f g = same_integer text number other f g
-forms_agree text (truth value) (truth other) f g = same_truth text value other f g
-forms_agree text (float value) (float other) f g = same_float_read text value other f g
+forms_agree text (whole number) (whole other) f g = one_value f g
+forms_agree text (truth value) (truth other) f g = one_value f g
+forms_agree text (float value) (float other) f g = one_value f g
 forms_agree text (instant moment after) (instant other more) f g =
     let same = same_field text f.0 f.3.0 g.0 g.3.0 f.1 g.1 f.3.1 g.3.1 in
-    (same_moment f.0 g.0 moment other f.2 g.2 same.0, forms_agree g.3.0 after more (rw (← same.1) f.3.2) g.3.2)
+    (one_value (rw (← same.0) f.2) g.2, forms_agree g.3.0 after more (rw (← same.1) f.3.2) g.3.2)
 forms_agree text (time moment) (instant other more) f g = moment_alone text g.0 g.3.0 moment f g.3.1
 forms_agree text (instant moment after) (time other) f g = moment_alone text f.0 f.3.0 other g f.3.1
-forms_agree text (sort kind) (sort other) f g = same_kind kind other (sym f ∙ g)
+forms_agree text (sort kind) (sort other) f g = one_value f g
 forms_agree text _ _ f g = tt
 
 -- moments and kinds whose forms agree are the same

@@ -1,8 +1,5 @@
 -- What is found where a line is read: in the line, after its word, and where a part of it is to stand.
-use Rattle.std.specs.Prelude.{◌≡◌, ℤ, ℕ, Bool, List, Option, Some, None}
-use Rattle.std.specs.Float.{Float, binary64}
-use Rattle.std.specs.Float.Parse.{parse_float}
-use Rattle.opentelemetry.specs.declared.trace.span_kind.SpanKind.{SpanKind}
+use Rattle.std.specs.Prelude.{◌≡◌, ℕ, List, Option, Some, None}
 use Rattle.opentelemetry.specs.declared.trace.status.Status.{Status}
 use Rattle.opentelemetry.specs.Plain.{PlainStatus}
 use Rattle.opentelemetry.specs.PlainValues.{plain_status}
@@ -10,8 +7,7 @@ use Rattle.otel_trace_lines.specs.declared.command.Command.{Command}
 use Rattle.otel_trace_lines.specs.declared.dialect.Dialect.{Dialect}
 use Rattle.otel_trace_lines.specs.Commands.{PlainCommand, has_more, plain_command}
 use Rattle.otel_trace_lines.specs.Dialects.{MayHave}
-use Rattle.otel_trace_lines.specs.Lines.{IsInteger64, IsOfForm, IsStatus, IsTruth, LineForm, Reads, field, form_of}
-use Rattle.otel_trace_lines.specs.Lines.{kind_word, last_field}
+use Rattle.otel_trace_lines.specs.Lines.{IsOfForm, IsStatus, LineForm, Reads, field, form_of, last_field}
 
 -- a line that reads as a command
 abbrev pub IsCommand : Dialect → List ℕ → Type 0
@@ -61,22 +57,3 @@ WordGives word (Some command) = form_of (plain_command command) ≡ last_field w
 abbrev pub StatusGives : List ℕ → Option Status → Type 0
 StatusGives text None = (how : PlainStatus) → IsStatus text how → ⊥
 StatusGives text (Some how) = IsStatus text (plain_status how)
-
--- what is found where an integer is to stand, and where a truth value is
-abbrev pub IntegerGives : List ℕ → Option ℤ → Type 0
-IntegerGives text None = (number : ℤ) → IsInteger64 text number → ⊥
-IntegerGives text (Some number) = IsInteger64 text number
-
-abbrev pub TruthGives : List ℕ → Option Bool → Type 0
-TruthGives text None = (value : Bool) → IsTruth text value → ⊥
-TruthGives text (Some value) = IsTruth text value
-
--- what is found where a float is to stand
-abbrev pub FloatGives : List ℕ → Option Float → Type 0
-FloatGives text None = (value : Float) → parse_float binary64 text ≡ Some value → ⊥
-FloatGives text (Some value) = parse_float binary64 text ≡ Some value
-
--- what is found where a kind is to stand
-abbrev pub KindGives : List ℕ → Option SpanKind → Type 0
-KindGives text None = (kind : SpanKind) → text ≡ kind_word kind → ⊥
-KindGives text (Some kind) = text ≡ kind_word kind

@@ -3,6 +3,7 @@ pub mod Commands
 pub mod Dialects
 pub mod Found
 pub mod Lines
+pub mod Numbers
 pub mod PlainReply
 pub mod ReplyForm
 pub mod ReplyText

@@ -1,53 +1,29 @@
 -- Which commands a text spells, line by line. Lines are those of the text, in std's word: each ends in a line feed and
 -- loses the one carriage return in front of it, and a rest after the last line feed, if not empty, is a line as it is.
-use Rattle.std.specs.Prelude.{◌≡◌, ◌≢◌, ℕ, ℤ, Bool, true, false, ◌+◌, ◌^◌, ◌<◌, List, [], ◌∷◌, ◌++◌, length, Option}
-use Rattle.std.specs.Prelude.{Some, None, All, codes, IsUtf8, slice_index, FitsSigned}
+use Rattle.std.specs.Prelude.{◌≡◌, ◌≢◌, ℕ, ℤ, Bool, ◌+◌, ◌<◌, List, [], ◌∷◌, ◌++◌, length, Option}
+use Rattle.std.specs.Prelude.{Some, None, All, codes, IsUtf8}
 use Rattle.std.specs.Option.{option_map}
 use Rattle.std.specs.Str.Lines.{lines}
-use Rattle.std.specs.Str.Parse.{IsNumeral, digits_value, signed_digits_value, without_leading_sign}
-use Rattle.std.specs.Int.{w64}
 use Rattle.std.specs.Float.{Float, binary64}
 use Rattle.std.specs.Float.Parse.{parse_float}
 use Rattle.opentelemetry.specs.declared.trace.span_kind.SpanKind.{SpanKind}
-use Rattle.opentelemetry.specs.declared.trace.span_kind.SpanKind.TheVariants as kinds
 use Rattle.opentelemetry.specs.Plain.{PlainStatus, unset, error, ok}
 use Rattle.otel_trace_lines.specs.Commands.{PlainCommand, start, child, remote, attr, event, status, inject, end, flush}
 use Rattle.otel_trace_lines.specs.Commands.{run, shutdown, set_int, set_bool, set_float, link, exception}
 use Rattle.otel_trace_lines.specs.Commands.{event_with, forget, has_more}
 use Rattle.otel_trace_lines.specs.Dialects.{HasWord, MayHave, without_comments}
+use Rattle.otel_trace_lines.specs.Numbers.{decimal_in, integer_in, kind_in, truth_in}
 use Rattle.otel_trace_lines.specs.declared.dialect.Dialect.{Dialect}
 
 -- a field is not empty and has no space in it
 abbrev pub IsField : List ℕ → Type 0
 IsField bytes = (0 < length bytes) × All (λ b. b ≢ 32) bytes
 
--- a numeral of decimal digits alone writes this number, in range of 64 bits
-abbrev pub IsDecimal64 : List ℕ → ℕ → Type 0
-IsDecimal64 digits number = IsNumeral 10 digits × (number ≡ digits_value 10 digits) × (number < 2 ^ 64)
-
--- decimal digits, alone or after a minus, write this integer, in range of 64 bits with a sign
-abbrev pub IsInteger64 : List ℕ → ℤ → Type 0
-IsInteger64 text number = (slice_index text 0 ≢ 43) × IsNumeral 10 (without_leading_sign text)
-    × FitsSigned w64 (signed_digits_value 10 text) × (number ≡ signed_digits_value 10 text)
-
--- a truth value is `true` or `false`
-abbrev pub IsTruth : List ℕ → Bool → Type 0
-IsTruth text true = text ≡ codes "true"
-IsTruth text false = text ≡ codes "false"
-
 -- a status is `ok`, or `error`, a space and the description, which may be empty; no text is a status that nobody set
 abbrev pub IsStatus : List ℕ → PlainStatus → Type 0
 IsStatus text unset = ⊥
 IsStatus text (error description) = text ≡ codes "error" ++ 32 ∷ description
 IsStatus text ok = text ≡ codes "ok"
-
--- the word of a kind
-abbrev pub kind_word : SpanKind → List ℕ
-kind_word kinds.Internal = codes "internal"
-kind_word kinds.Server = codes "server"
-kind_word kinds.Client = codes "client"
-kind_word kinds.Producer = codes "producer"
-kind_word kinds.Consumer = codes "consumer"
 
 -- the form of a line, from its front to its end
 pub data LineForm : Type 0 where
@@ -77,15 +53,15 @@ abbrev pub IsOfForm : List ℕ → LineForm → Type 0
 IsOfForm text (field front after) =
     IsField front × ((rest : List ℕ) × (text ≡ front ++ 32 ∷ rest) × IsOfForm rest after)
 IsOfForm text (last_field last) = IsField last × (text ≡ last)
-IsOfForm text (time moment) = IsDecimal64 text moment
+IsOfForm text (time moment) = decimal_in text ≡ Some moment
 IsOfForm text (outcome how) = IsStatus text how
 IsOfForm text (rest_of_line rest) = text ≡ rest
-IsOfForm text (whole number) = IsInteger64 text number
-IsOfForm text (truth value) = IsTruth text value
+IsOfForm text (whole number) = integer_in text ≡ Some number
+IsOfForm text (truth value) = truth_in text ≡ Some value
 IsOfForm text (float value) = parse_float binary64 text ≡ Some value
-IsOfForm text (instant moment after) = (digits : List ℕ) × IsField digits × IsDecimal64 digits moment
+IsOfForm text (instant moment after) = (digits : List ℕ) × IsField digits × (decimal_in digits ≡ Some moment)
     × ((rest : List ℕ) × (text ≡ digits ++ 32 ∷ rest) × IsOfForm rest after)
-IsOfForm text (sort kind) = text ≡ kind_word kind
+IsOfForm text (sort kind) = kind_in text ≡ Some kind
 
 -- a moment, alone or in front of something
 abbrev pub moment_and : ℕ → Option LineForm → LineForm

@@ -1,20 +1,14 @@
 //! The parts of a line: fields, each ended by a space, numbers, and the line itself.
 
-ghost use Rattle.std.specs.Prelude.{◌≡◌, ◌≢◌, ℕ, ◌<◌, All, List, slice_index, take, [], ◌∷◌, ◌++◌, length, Option, None, Some, IfOk, IsOk, IsTrue, ◌↔◌, MatchOption, codes, is_some, true};
+ghost use Rattle.std.specs.Prelude.{◌≡◌, ◌≢◌, ℕ, ◌<◌, All, List, slice_index, take, [], ◌∷◌, ◌++◌, length, Option, IfOk, IsOk, IsTrue, ◌↔◌, MatchOption, is_some, true};
+ghost use Rattle.std.specs.Float.{binary64};
+ghost use Rattle.std.specs.Float.Parse.{parse_float};
+ghost use Rattle.std.specs.Option.{option_map};
 ghost use Rattle.std.specs.Str.Lines.{lines as lines_of, strip_carriage_return};
 ghost use Rattle.otel_trace_lines.specs.Dialects.{MayHave};
-ghost use Rattle.otel_trace_lines.specs.Found.{FloatGives, IntegerGives, KindGives, SpellsStatus};
-ghost use Rattle.otel_trace_lines.specs.Found.{StatusGives, TruthGives};
-ghost use Rattle.otel_trace_lines.specs.Lines.{
-  IsField,
-  IsDecimal64,
-  IsOfForm,
-  field,
-  instant,
-  rest_of_line,
-  start_form,
-  time,
-};
+ghost use Rattle.otel_trace_lines.specs.Found.{SpellsStatus, StatusGives};
+ghost use Rattle.otel_trace_lines.specs.Lines.{IsField, IsOfForm, field, instant, rest_of_line, start_form, time};
+ghost use Rattle.otel_trace_lines.specs.Numbers.{decimal_in, integer_in, kind_in, truth_in};
 
 use crate::dialect::Dialect;
 use opentelemetry::Moment;
@@ -86,8 +80,9 @@ pub(crate) fn moment_and_kind(dialect: Dialect, text: &str) -> Option<(Moment, O
 }
 
 /// The kind whose word a text is; none where it is no such word.
+#[tactic(auto, unfolding(crate::specs::Numbers::kind_in))]
 fn kind_of(word: &str) -> Option<SpanKind>
-    ensures { KindGives word.now result }
+    ensures { result ≡ kind_in word.now }
 {
     match word {
         "internal" => Some(SpanKind::Internal),
@@ -185,9 +180,7 @@ fn first_space(text: &[u8]) -> Option<usize>
 
 /// The moment that digits write; none where it is out of range, or where anything but digits stands there.
 pub(crate) fn moment_of(digits: &str) -> Option<Moment>
-    ensures { MatchOption result
-        ((moment : ℕ) → IsDecimal64 digits.now moment → ⊥)
-        (λ moment. IsDecimal64 digits.now moment.0) }
+    ensures { option_map (λ moment. moment.0) result ≡ decimal_in digits.now }
 {
     let nanoseconds = parse_decimal(digits)?;
     Some(Moment(nanoseconds))
@@ -195,9 +188,7 @@ pub(crate) fn moment_of(digits: &str) -> Option<Moment>
 
 /// The number of 64 bits that digits write; none where it is out of range, or where anything but digits stands there.
 pub fn parse_decimal(digits: &str) -> Option<u64>
-    ensures { MatchOption result
-        ((number : ℕ) → IsDecimal64 digits.now number → ⊥)
-        (λ number. IsDecimal64 digits.now number) }
+    ensures { result ≡ decimal_in digits.now }
 {
     if digits.starts_with('+') {
         return None;
@@ -208,7 +199,7 @@ pub fn parse_decimal(digits: &str) -> Option<u64>
 /// The integer of 64 bits with a sign that digits write, maybe after a minus; none where it is out of range, or where
 /// anything else stands there.
 pub(crate) fn parse_integer(digits: &str) -> Option<i64>
-    ensures { IntegerGives digits.now result }
+    ensures { result ≡ integer_in digits.now }
 {
     if digits.starts_with('+') {
         return None;
@@ -217,8 +208,9 @@ pub(crate) fn parse_integer(digits: &str) -> Option<i64>
 }
 
 /// The truth value that a text is; none where it is neither.
+#[tactic(auto, unfolding(crate::specs::Numbers::truth_in))]
 pub(crate) fn truth_of(text: &str) -> Option<bool>
-    ensures { TruthGives text.now result }
+    ensures { result ≡ truth_in text.now }
 {
     match text {
         "true" => Some(true),
@@ -229,7 +221,7 @@ pub(crate) fn truth_of(text: &str) -> Option<bool>
 
 /// The float nearest to the number that a text writes, which may be `inf` or `nan`; none where it writes none.
 pub(crate) fn parse_float(text: &str) -> Option<f64>
-    ensures { FloatGives text.now result }
+    ensures { result ≡ parse_float binary64 text.now }
 {
     text.parse::<f64>().ok()
 }

@@ -9,4 +9,4 @@ pub mod StepStream
 pub mod TraceEnds
 pub mod TraceStream
 pub mod Viewing
-pub mod WordNumbers
+pub mod IdNumbers

@@ -1,7 +1,7 @@
 -- Fields that end in others.
-use Rattle.std.proofs.Common.{◌≡◌, ◌++◌, ◌+◌, ◌∙◌, ◌∷◌, ℕ, List, Option, Some, add-one, ap, append_assoc, inl, inr, refl, subst, sym}
+use Rattle.std.proofs.Common.{◌≡◌, ◌++◌, ◌+◌, ◌∙◌, ◌∷◌, ℕ, List, Option, None, Some, add-one, ap, append_assoc, inl, inr, refl, subst, sym}
 use Rattle.std.specs.Prelude.{◌⊎◌}
-use Rattle.otel_trace_lines.specs.Lines.{IsDecimal64}
+use Rattle.otel_trace_lines.specs.Numbers.{decimal_in}
 use Rattle.otel_trace_run.specs.Reasons.{EndsIn, ExplainsAfter, ExplainsMoment, ExplainsRest, ExplainsWord, StandBefore}
 use Rattle.otel_trace_run.specs.Reasons.{moment_place}
 use Rattle.otel_trace_run.specs.declared.reason.Reason.{Reason}
@@ -29,7 +29,7 @@ explains_last word fields wants reason h (inr k) = inr (inl (fields, inl refl, k
 pub explains_place : (count : ℕ) (fields rest : List ℕ) (wants reason : Reason) → EndsIn fields rest
     → StandBefore count fields rest
     → (reason ≡ wants) ⊎ (ExplainsRest rest reason
-    ⊎ ((reason ≡ reasons.Number) × ((number : ℕ) → IsDecimal64 rest number → ⊥)))
+    ⊎ ((reason ≡ reasons.Number) × (decimal_in rest ≡ None)))
     → ExplainsMoment count fields wants reason
 explains_place count fields rest wants reason ends stand (inl e) = inl (inl e)
 explains_place count fields rest wants reason ends stand (inr (inl h)) = inl (inr (rest, ends, h))

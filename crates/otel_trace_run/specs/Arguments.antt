@@ -4,8 +4,8 @@ use Rattle.std.specs.Prelude.{if◌then◌else◌, nat_lt, ◌||◌}
 use Rattle.std.specs.Fmt.{decimal}
 use Rattle.std.specs.Option.{option_map}
 use Rattle.std.specs.Str.{bytes_eq}
+use Rattle.otel_trace_lines.specs.Numbers.{decimal_in}
 use Rattle.otel_trace_steps.specs.declared.steps.Sizes.{Sizes}
-use Rattle.otel_trace_run.specs.Words.{decimal_in}
 use Rattle.otel_trace_run.specs.declared.mode.Asked.{Asked}
 use Rattle.otel_trace_run.specs.declared.mode.AskedExport.{AskedExport}
 use Rattle.otel_trace_run.specs.declared.mode.AskedProcessor.{AskedProcessor}

@@ -5,8 +5,9 @@ use Rattle.std.specs.Str.{bytes_eq}
 use Rattle.std.specs.Str.Parse.{starts_with_minus}
 use Rattle.otel_picture.specs.Choices.{every}
 use Rattle.otel_picture.specs.declared.choice.Choice.{Choice}
+use Rattle.otel_trace_lines.specs.Numbers.{decimal_in}
 use Rattle.otel_trace_run.specs.Arguments.{columns_in}
-use Rattle.otel_trace_run.specs.Words.{decimal_in, trace_id_in}
+use Rattle.otel_trace_run.specs.Words.{trace_id_in}
 use Rattle.otel_trace_run.specs.declared.asked_view.View.{View}
 use Rattle.otel_trace_run.specs.declared.asked_view.ViewForm.{ViewForm}
 use Rattle.otel_trace_run.specs.declared.asked_view.ViewForm.TheVariants as views

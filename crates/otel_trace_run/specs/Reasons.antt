@@ -2,7 +2,8 @@
 use Rattle.std.specs.Prelude.{◌≡◌, ◌≢◌, ◌⊎◌, ℕ, zero, suc, ◌+◌, List, [], ◌∷◌, ◌++◌, Bool, true, false, Option, Some, None, IsUtf8, codes, length}
 use Rattle.std.specs.Fmt.{decimal}
 use Rattle.std.specs.Str.Lines.{lines}
-use Rattle.otel_trace_lines.specs.Lines.{IsDecimal64, IsField}
+use Rattle.otel_trace_lines.specs.Lines.{IsField}
+use Rattle.otel_trace_lines.specs.Numbers.{decimal_in}
 use Rattle.otel_trace_run.specs.Arguments.{bad_line_text}
 use Rattle.otel_trace_run.specs.declared.reason.Reason.{Reason}
 use Rattle.otel_trace_run.specs.declared.reason.Reason.TheVariants as reasons
@@ -61,7 +62,7 @@ StandBefore (suc count) fields rest = (field : List ℕ) × (middle : List ℕ) 
 pub record MisreadsMoment (count : ℕ) (fields : List ℕ) : Type 0 where
   pub rest : List ℕ
   pub place : StandBefore count fields rest
-  pub unread : (number : ℕ) → IsDecimal64 rest number → ⊥
+  pub unread : decimal_in rest ≡ None
 
 -- how many fields stand before the moment that a command wants, if it wants one; the command by what it wants
 abbrev pub moment_place : Reason → Option ℕ

@@ -4,11 +4,12 @@ ghost use Rattle.std.specs.Prelude.{◌≡◌, map, string_bytes};
 ghost use Rattle.otel_trace_run.specs.AskedViews.{chosen, form_in, narrowed, view_in, viewed};
 ghost use Rattle.otel_trace_run.specs.Words.{trace_id_in};
 
-use crate::mode::{columns_of, number_of};
+use crate::mode::columns_of;
 use crate::picture::PictureForm;
 use opentelemetry::TraceId;
 use otel_picture::choice::{Choice, EVERY};
 use otel_picture::layout::COLUMNS;
+use otel_trace_lines::fields::parse_decimal;
 
 /// What is written of traces, and of which.
 #[derive(Clone, Copy, Debug, PartialEq, Eq)]
@@ -90,7 +91,7 @@ fn narrow(word: &str, value: &str, begun: Choice) -> Option<Choice>
     ensures { result ≡ narrowed word.now value.now begun }
 {
     if word == "--slowest" {
-        let count = number_of(value)? as usize;
+        let count = parse_decimal(value)? as usize;
         Some(Choice {
             slowest: Some(count),
             ..begun

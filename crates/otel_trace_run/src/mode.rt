@@ -7,7 +7,6 @@ ghost use Rattle.otel_trace_run.specs.Arguments.{mode_in, otlp_in, picture_in, p
 ghost use Rattle.otel_trace_run.specs.Arguments.{with_one};
 ghost use Rattle.otel_trace_run.specs.Program.{says_reasons};
 ghost use Rattle.otel_trace_run.specs.Requests.{GivenUnread};
-ghost use Rattle.otel_trace_run.specs.Words.{decimal_in};
 
 use crate::given_attributes::unread_member;
 use crate::picture::PictureForm;
@@ -149,7 +148,7 @@ fn asked_of(words: &[String]) -> Option<(Asked, &[String])>
         ≡ asked_in (map string_bytes words.now) }
 {
     let (seed, kind) = words.split_first()?;
-    let seed = number_of(seed.as_str())?;
+    let seed = parse_decimal(seed.as_str())?;
     let (processor, after) = processor_of(kind)?;
     Some((Asked { seed, processor }, after))
 }
@@ -176,8 +175,8 @@ fn batch_of(words: &[String]) -> Option<(AskedProcessor, &[String])>
 {
     let (queue, rest) = words.split_first()?;
     let (batch, after) = rest.split_first()?;
-    let queue = number_of(queue.as_str())? as usize;
-    let batch = number_of(batch.as_str())? as usize;
+    let queue = parse_decimal(queue.as_str())? as usize;
+    let batch = parse_decimal(batch.as_str())? as usize;
     Some((AskedProcessor::Batch { queue, batch }, after))
 }
 
@@ -187,9 +186,9 @@ fn sizes_of(words: &[String]) -> Option<Sizes>
 {
     match words {
         [queue, batch, producers] => Some(Sizes {
-            queue: number_of(queue.as_str())? as usize,
-            batch: number_of(batch.as_str())? as usize,
-            producers: number_of(producers.as_str())? as usize,
+            queue: parse_decimal(queue.as_str())? as usize,
+            batch: parse_decimal(batch.as_str())? as usize,
+            producers: parse_decimal(producers.as_str())? as usize,
         }),
         _ => None,
     }
@@ -209,16 +208,9 @@ fn given_columns(given: &[String]) -> Option<u32>
 pub(crate) fn columns_of(digits: &str) -> Option<u32>
     ensures { result ≡ columns_in digits.now }
 {
-    let number = number_of(digits)?;
+    let number = parse_decimal(digits)?;
     if number < 20 || number > 400 {
         return None;
     }
     Some(number as u32)
-}
-
-/// The number of 64 bits that decimal digits alone write.
-pub(crate) fn number_of(word: &str) -> Option<u64>
-    ensures { result ≡ decimal_in word.now }
-{
-    parse_decimal(word)
 }

@@ -1,9 +1,9 @@
 //! Why a line reads as no command of the extended grammar, for whoever wrote it. The modes `trace` and `steps`, whose
 //! texts are fixed, do not say it.
 
-ghost use Rattle.std.specs.Prelude.{◌≡◌, ◌⊎◌, ◌<◌, ℕ, IfNone, IfSome, length};
+ghost use Rattle.std.specs.Prelude.{◌≡◌, ◌⊎◌, ◌<◌, IfNone, IfSome, None, length};
 ghost use Rattle.std.specs.Str.Lines.{lines};
-ghost use Rattle.otel_trace_lines.specs.Lines.{IsDecimal64};
+ghost use Rattle.otel_trace_lines.specs.Numbers.{decimal_in};
 ghost use Rattle.otel_trace_run.specs.Reasons.{Explains, ExplainsAfter, ExplainsFields, ExplainsMoment, ExplainsRest};
 ghost use Rattle.otel_trace_run.specs.Reasons.{ExplainsWord, IsLineAt, IsReasonAt, reason_text};
 ghost use Rattle.otel_trace_run.specs.declared.reason.Reason.TheVariants as reasons;
@@ -208,7 +208,7 @@ fn reason_of_gap(rest: &str, wants: Reason) -> Reason
 /// What is wrong where a moment is wanted.
 fn reason_of_moment(rest: &str, wants: Reason) -> Reason
     ensures { (result ≡ wants) ⊎ (ExplainsRest rest.now result
-        ⊎ ((result ≡ reasons.Number) × ((number : ℕ) → IsDecimal64 rest.now number → ⊥))) }
+        ⊎ ((result ≡ reasons.Number) × (decimal_in rest.now ≡ None))) }
 {
     if rest.is_empty() || parse_decimal(rest).is_some() {
         return wants;

@@ -1,19 +1,13 @@
 -- The fields of a line of steps are determined, so what is found of them is found in the line.
 use Rattle.std.proofs.Common.{◌≡◌, ◌≢◌, ℕ, List, ◌∷◌, ◌++◌, Option, None, Some, IsUtf8, codes, inl, inr, refl, arith, rules}
-use Rattle.std.proofs.lemmas.List.Elements.{All-from_get_or, All-from_recursion}
-use Rattle.std.proofs.lemmas.Str.Parse.{not_in_digits, numerals_by_value, tells_digits}
-use Rattle.std.specs.Str.Parse.{AllDigits}
+use Rattle.std.proofs.lemmas.List.Elements.{All-from_recursion}
 use Rattle.otel_batch.specs.declared.machine.step.Step.TheVariants as steps
-use Rattle.otel_trace_lines.specs.Lines.{IsField, IsDecimal64}
+use Rattle.otel_trace_lines.specs.Lines.{IsField}
 use Rattle.otel_trace_steps.specs.StepLines.{Finds, IsWord, ReadsOrder, SomeOffer, TakesFields, TakesName, TakesProducer}
 use Rattle.otel_trace_steps.specs.declared.steps.step_lines.Order.{Order}
 use Rattle.otel_trace_steps.specs.declared.steps.step_lines.Order.TheVariants as orders
 use Rattle.otel_trace_lines.proofs.FieldLemmas.{same_field, no_last_field}
-
--- a number has no space
-pub number_is_field : (digits : List ℕ) (n : ℕ) → IsDecimal64 digits n → IsField digits
-number_is_field digits n h =
-    (h.0.0, All-from_get_or (λ b. b ≢ 32) digits 0 (not_in_digits (numerals_by_value (AllDigits 10) tells_digits) digits 32 h.0.1 (λ r. omega (arith, r.0))))
+use Rattle.otel_trace_lines.proofs.Numerals.{number_is_field}
 
 -- where a number stands after the word, and a name after that
 reads_name : (word fields digits name : List ℕ) → IsField digits → fields ≡ digits ++ 32 ∷ name → (order : Order) → (TakesName word digits name order → ⊥) → TakesFields word fields order → ⊥

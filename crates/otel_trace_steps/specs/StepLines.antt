@@ -1,12 +1,13 @@
 -- Which steps of a batch queue lines spell: a line is a word alone, a word and a producer, or a word, a producer and
 -- the name of a span, with single spaces between.
-use Rattle.std.specs.Prelude.{◌≡◌, ◌≢◌, ◌⊎◌, ℕ, false, List, [], ◌∷◌, ◌++◌, Option, None, MatchOption, codes, IsUtf8}
+use Rattle.std.specs.Prelude.{◌≡◌, ◌≢◌, ◌⊎◌, ℕ, false, List, [], ◌∷◌, ◌++◌, Option, None, Some, MatchOption, codes, IsUtf8}
 use Rattle.opentelemetry.specs.Plain.{unset}
 use Rattle.opentelemetry.specs.declared.trace.span_kind.SpanKind.TheVariants as kinds
 use Rattle.otel_resource.specs.Resource.{empty_resource}
 use Rattle.otel_export.specs.PlainSpanData.{PlainSpanData}
 use Rattle.otel_batch.specs.declared.machine.step.Step.TheVariants as steps
-use Rattle.otel_trace_lines.specs.Lines.{IsField, IsDecimal64}
+use Rattle.otel_trace_lines.specs.Lines.{IsField}
+use Rattle.otel_trace_lines.specs.Numbers.{decimal_in}
 use Rattle.otel_trace_steps.specs.declared.steps.step_lines.Order.{Order}
 use Rattle.otel_trace_steps.specs.declared.steps.step_lines.Order.TheVariants as orders
 
@@ -68,11 +69,11 @@ IsOffer word p name _ = ⊥
 
 -- a word and a producer's number
 abbrev pub TakesProducer : List ℕ → List ℕ → Order → Type 0
-TakesProducer word digits order = (p : ℕ) × IsDecimal64 digits p × IsOfProducer word p order
+TakesProducer word digits order = (p : ℕ) × (decimal_in digits ≡ Some p) × IsOfProducer word p order
 
 -- a word, a producer's number and a name
 abbrev pub TakesName : List ℕ → List ℕ → List ℕ → Order → Type 0
-TakesName word digits name order = (p : ℕ) × IsDecimal64 digits p × IsField name × IsOffer word p name order
+TakesName word digits name order = (p : ℕ) × (decimal_in digits ≡ Some p) × IsField name × IsOffer word p name order
 
 -- a word and what stands after its space
 abbrev pub TakesFields : List ℕ → List ℕ → Order → Type 0

@@ -4,15 +4,16 @@ use Rattle.std.specs.Option.{is_some}
 use Rattle.otel_trace_lines.specs.Dialects.{MayHave}
 use Rattle.otel_trace_lines.specs.declared.dialect.Dialect.{Dialect}
 use Rattle.otel_trace_lines.proofs.KindLemmas.{no_kind, no_moment, plain_has_none}
+use Rattle.otel_trace_lines.proofs.Numerals.{none_found}
 use Rattle.otel_trace_lines.proofs.fields.moment_and_kind.Goals as goal
 
 pub returns-in_err-moment_of : goal.returns-in_err-moment_of
 returns-in_err-moment_of c =
-    rw c.from_residual.ensures (no_moment c.args.dialect c.args.text.now c.in_default.ensures c.in_err-moment_of.ensures)
+    rw c.from_residual.ensures (no_moment c.args.dialect c.args.text.now c.in_default.ensures (none_found c.in_err-moment_of.ensures))
 
 pub returns-in_err-kind_of-in-Extended : goal.returns-in_err-kind_of-in-Extended
 returns-in_err-kind_of-in-Extended c =
-    rw c.from_residual-in_err-kind_of-in-Extended.ensures (no_kind c.args.dialect c.args.text.now c.in-Some.moment.0 c.in-Some.word.now c.in-Some.ensures c.in_err-kind_of-in-Extended.ensures)
+    rw c.from_residual-in_err-kind_of-in-Extended.ensures (no_kind c.args.dialect c.args.text.now c.in-Some.moment.0 c.in-Some.word.now c.in-Some.ensures (none_found c.in_err-kind_of-in-Extended.ensures))
 
 pub returns-in-Plain : goal.returns-in-Plain
 returns-in-Plain c = λ moment kind h may.

@@ -1,11 +1,12 @@
 -- There are no fields, or neither a moment after them nor one with an attribute.
-use Rattle.std.proofs.Common.{ℕ, List, true, codes, refl}
+use Rattle.std.proofs.Common.{ℕ, List, true, codes, refl, sym}
 use Rattle.otel_trace_lines.specs.Commands.{event, event_with}
 use Rattle.otel_trace_lines.specs.Dialects.{MayHave}
 use Rattle.otel_trace_lines.specs.declared.dialect.Dialect.{Dialect}
 use Rattle.otel_trace_lines.specs.Lines.{IsOfForm, field, instant, rest_of_line, time}
 use Rattle.otel_trace_lines.specs.Found.{AreFieldsIn}
 use Rattle.otel_trace_lines.proofs.FieldLemmas.{only_event, ends_as, ends_with, one_rest}
+use Rattle.otel_trace_lines.proofs.Numerals.{none_found}
 use Rattle.otel_trace_lines.proofs.lines.event_of.Goals as goal
 
 pub returns-in_default-clause-found : goal.returns-in_default-clause-found
@@ -18,7 +19,7 @@ returns-in_default-moment_and_attribute-clause-found c = only_event c.args.diale
     (λ span name moment h.
     let parts = ends_as c.args.fields.now span name (time moment) h in
     let same = one_rest c.args.fields.now c.in-Some.span.now c.in-Some.name.now c.in-Some.rest.now span name parts.0 c.in-Some.ensures parts.1 in
-    c.in_default-moment_of.ensures moment (rw (← same) parts.2))
+    none_found c.in_default-moment_of.ensures moment (rw (← same) parts.2))
     (λ span name moment key value h may.
     let parts = ends_as c.args.fields.now span name (instant moment (field key (rest_of_line value))) h in
     let same = one_rest c.args.fields.now c.in-Some.span.now c.in-Some.name.now c.in-Some.rest.now span name parts.0 c.in-Some.ensures parts.1 in
@@ -30,11 +31,11 @@ event_there dialect fields span name rest moment h is = (event span name moment,
 
 pub returns-in_err-from_str-clause-free : goal.returns-in_err-from_str-clause-free
 returns-in_err-from_str-clause-free c =
-    λ none. absurd (none (event_there c.args.dialect c.args.fields.now c.in-Some.span.now c.in-Some.name.now c.in-Some.rest.now c.in-Some-moment_of.moment.0 c.in-Some.ensures c.in-Some-moment_of.ensures))
+    λ none. absurd (none (event_there c.args.dialect c.args.fields.now c.in-Some.span.now c.in-Some.name.now c.in-Some.rest.now c.in-Some-moment_of.moment.0 c.in-Some.ensures (sym c.in-Some-moment_of.ensures)))
 
 pub returns-in_err-from_str-2-clause-free : goal.returns-in_err-from_str-2-clause-free
 returns-in_err-from_str-2-clause-free c =
-    λ none. absurd (none (event_there c.args.dialect c.args.fields.now c.in-Some.span.now c.in-Some.name.now c.in-Some.rest.now c.in-Some-moment_of.moment.0 c.in-Some.ensures c.in-Some-moment_of.ensures))
+    λ none. absurd (none (event_there c.args.dialect c.args.fields.now c.in-Some.span.now c.in-Some.name.now c.in-Some.rest.now c.in-Some-moment_of.moment.0 c.in-Some.ensures (sym c.in-Some-moment_of.ensures)))
 
 -- or one with an attribute
 attribute_there : (dialect : Dialect) (fields span name rest : List ℕ) (moment : ℕ) (key value : List ℕ) → IsOfForm fields (field span (field name (rest_of_line rest)))

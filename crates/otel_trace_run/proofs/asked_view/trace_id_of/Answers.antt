@@ -1,6 +1,6 @@
 use Rattle.std.proofs.Common.{◌<◌, ◌^◌, rules, sym}
 use Rattle.std.proofs.lemmas.Bool.{false≢true}
-use Rattle.otel_trace_run.proofs.WordNumbers.{id_read, no_id}
+use Rattle.otel_trace_run.proofs.IdNumbers.{id_read, no_id}
 use Rattle.otel_trace_run.proofs.asked_view.trace_id_of.Goals as goal
 
 pub returns-in-Ok : goal.returns-in-Ok

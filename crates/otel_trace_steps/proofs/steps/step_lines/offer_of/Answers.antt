@@ -1,5 +1,5 @@
 -- A name has no space, and memory is wanted after all tests.
-use Rattle.std.proofs.Common.{◌≢◌, ◌<◌, length, lit<, refl, rules}
+use Rattle.std.proofs.Common.{◌≢◌, ◌<◌, length, lit<, refl, rules, sym}
 use Rattle.std.proofs.lemmas.List.Elements.{All-from_get_or}
 use Rattle.std.proofs.lemmas.Str.Pattern.{contains_char}
 use Rattle.otel_trace_lines.specs.Lines.{IsField}
@@ -16,7 +16,7 @@ returns-clause-found c =
       | in-offer w ↦ search rules
       | in-text w ↦ search rules
     ] in
-    (c.in-Some.producer, c.in-Some.ensures, (some, All-from_get_or (λ b. b ≢ 32) c.args.name.now 0 (λ k within e. let found = looked.1 k within e in cc)), (refl, (c.match-word.flags, flags, c.in_ok-span.ensures)))
+    (c.in-Some.producer, sym c.in-Some.ensures, (some, All-from_get_or (λ b. b ≢ 32) c.args.name.now 0 (λ k within e. let found = looked.1 k within e in cc)), (refl, (c.match-word.flags, flags, c.in_ok-span.ensures)))
 
 pub returns-in_err-span-clause-free : goal.returns-in_err-span-clause-free
 returns-in_err-span-clause-free c =
@@ -28,4 +28,4 @@ returns-in_err-span-clause-free c =
       | in-offer w ↦ search rules
       | in-text w ↦ search rules
     ] in
-    λ no_offer. absurd (no_offer (c.in-Some.producer, (named_span c.args.name.now c.match-word.flags, (c.in-Some.producer, c.in-Some.ensures, is_field, (refl, (c.match-word.flags, flags, refl))))))
+    λ no_offer. absurd (no_offer (c.in-Some.producer, (named_span c.args.name.now c.match-word.flags, (c.in-Some.producer, sym c.in-Some.ensures, is_field, (refl, (c.match-word.flags, flags, refl))))))
