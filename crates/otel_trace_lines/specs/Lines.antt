@@ -140,6 +140,12 @@ module _ (dialect : Dialect) where
   abbrev pub TextSpells : List ℕ → List PlainCommand → Option ℕ → Type 0
   TextSpells text commands bad_line = SpellUpTo (without_comments dialect (lines text)) commands bad_line
 
+  -- what a text without a bad line spells goes on in another after its end, with its lines counted through
+  abbrev pub GoesOn : List ℕ → List ℕ → Type 0
+  GoesOn first second = (commands more : List PlainCommand) (bad_line : Option ℕ)
+      → TextSpells first commands None → TextSpells second more bad_line
+      → TextSpells (first ++ second) (commands ++ more) (option_map (λ n. length (lines first) + n) bad_line)
+
   -- a text that spells no command: its lines up to the first bad one are empty
   abbrev pub SpellsNothing : List ℕ → Type 0
   SpellsNothing text = (bad_line : Option ℕ) × TextSpells text [] bad_line

@@ -6,7 +6,7 @@ ghost use Rattle.std.specs.Float.Parse.{parse_float};
 ghost use Rattle.std.specs.Option.{option_map};
 ghost use Rattle.std.specs.Str.Lines.{lines as lines_of, strip_carriage_return};
 ghost use Rattle.otel_trace_lines.specs.Dialects.{MayHave};
-ghost use Rattle.otel_trace_lines.specs.Found.{SpellsStatus, StatusGives};
+ghost use Rattle.otel_trace_lines.specs.Found.{Finds, SpellsStatus, StatusGives};
 ghost use Rattle.otel_trace_lines.specs.Lines.{IsField, IsOfForm, field, instant, rest_of_line, start_form, time};
 ghost use Rattle.otel_trace_lines.specs.Numbers.{decimal_in, integer_in, kind_in, truth_in};
 
@@ -18,10 +18,9 @@ use std::alloc::{AllocError, Global};
 
 /// Two fields and what stands after the space that ends the second; none where there are not so many.
 pub(crate) fn two_fields_and_rest(text: &str) -> Option<(&str, &str, &str)>
-    ensures { MatchOption result
-        ((first second rest : List ℕ)
-        → IsOfForm text.now (field first (field second (rest_of_line rest))) → ⊥)
-        (λ parts. IsOfForm text.now (field parts.0.now (field parts.1.now (rest_of_line parts.2.now)))) }
+    ensures { Finds {X = List ℕ × List ℕ × List ℕ}
+        (λ parts. IsOfForm text.now (field parts.0 (field parts.1 (rest_of_line parts.2))))
+        (option_map (λ parts. (parts.0.now, parts.1.now, parts.2.now)) result) }
 {
     let (first, after) = first_field(text)?;
     let (second, rest) = first_field(after)?;
@@ -30,11 +29,9 @@ pub(crate) fn two_fields_and_rest(text: &str) -> Option<(&str, &str, &str)>
 
 /// Three fields and what stands after the space that ends the third; none where there are not so many.
 pub(crate) fn three_fields_and_rest(text: &str) -> Option<(&str, &str, &str, &str)>
-    ensures { MatchOption result
-        ((first second third rest : List ℕ)
-        → IsOfForm text.now (field first (field second (field third (rest_of_line rest)))) → ⊥)
-        (λ parts. IsOfForm text.now
-        (field parts.0.now (field parts.1.now (field parts.2.now (rest_of_line parts.3.now))))) }
+    ensures { Finds {X = List ℕ × List ℕ × List ℕ × List ℕ}
+        (λ parts. IsOfForm text.now (field parts.0 (field parts.1 (field parts.2 (rest_of_line parts.3)))))
+        (option_map (λ parts. (parts.0.now, parts.1.now, parts.2.now, parts.3.now)) result) }
 {
     let (first, after) = first_field(text)?;
     let (second, third, rest) = two_fields_and_rest(after)?;
@@ -43,9 +40,9 @@ pub(crate) fn three_fields_and_rest(text: &str) -> Option<(&str, &str, &str, &st
 
 /// A field and the moment after it; none where anything else stands there.
 pub(crate) fn field_and_moment(text: &str) -> Option<(&str, Moment)>
-    ensures { MatchOption result
-        ((first : List ℕ) (moment : ℕ) → IsOfForm text.now (field first (time moment)) → ⊥)
-        (λ parts. IsOfForm text.now (field parts.0.now (time parts.1.0))) }
+    ensures { Finds {X = List ℕ × ℕ}
+        (λ parts. IsOfForm text.now (field parts.0 (time parts.1)))
+        (option_map (λ parts. (parts.0.now, parts.1.0)) result) }
 {
     let (first, digits) = first_field(text)?;
     let moment = moment_of(digits)?;
@@ -54,9 +51,9 @@ pub(crate) fn field_and_moment(text: &str) -> Option<(&str, Moment)>
 
 /// A moment and what stands after the space that ends it; none where anything else stands there.
 pub(crate) fn moment_and_rest(text: &str) -> Option<(Moment, &str)>
-    ensures { MatchOption result
-        ((moment : ℕ) (rest : List ℕ) → IsOfForm text.now (instant moment (rest_of_line rest)) → ⊥)
-        (λ parts. IsOfForm text.now (instant parts.0.0 (rest_of_line parts.1.now))) }
+    ensures { Finds {X = ℕ × List ℕ}
+        (λ parts. IsOfForm text.now (instant parts.0 (rest_of_line parts.1)))
+        (option_map (λ parts. (parts.0.0, parts.1.now)) result) }
 {
     let (digits, rest) = first_field(text)?;
     let moment = moment_of(digits)?;
@@ -65,10 +62,9 @@ pub(crate) fn moment_and_rest(text: &str) -> Option<(Moment, &str)>
 
 /// A moment, and in the extended grammar maybe the word of a kind after a space; none where anything else stands there.
 pub(crate) fn moment_and_kind(dialect: Dialect, text: &str) -> Option<(Moment, Option<SpanKind>)>
-    ensures { MatchOption result
-        ((moment : ℕ) (kind : Option SpanKind) → IsOfForm text.now (start_form moment kind)
-        → MayHave dialect (is_some kind) → ⊥)
-        (λ parts. IsOfForm text.now (start_form parts.0.0 parts.1) × MayHave dialect (is_some parts.1)) }
+    ensures { Finds {X = ℕ × Option SpanKind}
+        (λ parts. IsOfForm text.now (start_form parts.0 parts.1) × MayHave dialect (is_some parts.1))
+        (option_map (λ parts. (parts.0.0, parts.1)) result) }
 {
     let Some((moment, word)) = moment_and_rest(text) else {
         return Some((moment_of(text)?, None));
@@ -97,11 +93,9 @@ fn kind_of(word: &str) -> Option<SpanKind>
 /// What only the extended grammar has after an event's name: a moment, a key, and the rest as a value; none where
 /// anything else stands there, and in the plain grammar.
 pub(crate) fn moment_and_attribute(dialect: Dialect, text: &str) -> Option<(Moment, &str, &str)>
-    ensures { MatchOption result
-        ((moment : ℕ) (key value : List ℕ) → IsOfForm text.now (instant moment (field key (rest_of_line value)))
-        → MayHave dialect true → ⊥)
-        (λ parts. IsOfForm text.now (instant parts.0.0 (field parts.1.now (rest_of_line parts.2.now)))
-        × MayHave dialect true) }
+    ensures { Finds {X = ℕ × List ℕ × List ℕ}
+        (λ parts. IsOfForm text.now (instant parts.0 (field parts.1 (rest_of_line parts.2))) × MayHave dialect true)
+        (option_map (λ parts. (parts.0.0, parts.1.now, parts.2.now)) result) }
 {
     match dialect {
         Dialect::Plain => None,

@@ -1,10 +1,10 @@
 //! Laws of texts and their lines: each function does nothing, and its contract is the law.
 
-ghost use Rattle.std.specs.Prelude.{◌≡◌, ◌+◌, ◌++◌, List, ℕ, Option, Some, None, length, option_map};
+ghost use Rattle.std.specs.Prelude.{◌≡◌, ◌++◌, List, ℕ, Some};
 ghost use Rattle.std.specs.Io.{IsEmptyOrEndsWith};
 ghost use Rattle.std.specs.Str.Lines.{lines as lines_of};
 ghost use Rattle.otel_trace_lines.specs.Commands.{PlainCommand};
-ghost use Rattle.otel_trace_lines.specs.Lines.{TextSpells};
+ghost use Rattle.otel_trace_lines.specs.Lines.{GoesOn, TextSpells};
 ghost use Rattle.otel_trace_lines.specs.declared.dialect.Dialect.{Dialect};
 
 /// A text that is cut after a line feed has the lines of its two parts.
@@ -16,11 +16,8 @@ pub fn lines_join()
 /// A text that is cut after a line feed spells what its two parts spell, with its lines counted through. After a bad
 /// line it may go on as it will.
 pub fn texts_join()
-    ensures joined { (dialect : Dialect) (first second : List ℕ)
-        (commands more : List PlainCommand) (bad_line : Option ℕ)
-        → IsEmptyOrEndsWith first 10 → TextSpells dialect first commands None → TextSpells dialect second more bad_line
-        → TextSpells dialect (first ++ second) (commands ++ more)
-        (option_map (λ line. length (lines_of first) + line) bad_line) }
+    ensures joined { (dialect : Dialect) (first second : List ℕ) → IsEmptyOrEndsWith first 10
+        → GoesOn dialect first second }
     ensures bad { (dialect : Dialect) (first second : List ℕ) (commands : List PlainCommand) (line : ℕ)
         → IsEmptyOrEndsWith first 10 → TextSpells dialect first commands (Some line)
         → TextSpells dialect (first ++ second) commands (Some line) }

@@ -2,8 +2,9 @@
 use Rattle.std.proofs.Common.{◌≡◌, ◌≢◌, ℕ, List, ◌∷◌, ◌++◌, Option, None, Some, IsUtf8, codes, inl, inr, refl, arith, rules}
 use Rattle.std.proofs.lemmas.List.Elements.{All-from_recursion}
 use Rattle.otel_batch.specs.declared.machine.step.Step.TheVariants as steps
+use Rattle.otel_trace_lines.specs.Found.{Finds}
 use Rattle.otel_trace_lines.specs.Lines.{IsField}
-use Rattle.otel_trace_steps.specs.StepLines.{Finds, IsWord, ReadsOrder, SomeOffer, TakesFields, TakesName, TakesProducer}
+use Rattle.otel_trace_steps.specs.StepLines.{IsWord, ReadsOrder, SomeOffer, TakesFields, TakesName, TakesProducer}
 use Rattle.otel_trace_steps.specs.declared.steps.step_lines.Order.{Order}
 use Rattle.otel_trace_steps.specs.declared.steps.step_lines.Order.TheVariants as orders
 use Rattle.otel_trace_lines.proofs.FieldLemmas.{same_field, no_last_field}

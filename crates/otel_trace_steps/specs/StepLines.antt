@@ -1,6 +1,6 @@
 -- Which steps of a batch queue lines spell: a line is a word alone, a word and a producer, or a word, a producer and
 -- the name of a span, with single spaces between.
-use Rattle.std.specs.Prelude.{◌≡◌, ◌≢◌, ◌⊎◌, ℕ, false, List, [], ◌∷◌, ◌++◌, Option, None, Some, MatchOption, codes, IsUtf8}
+use Rattle.std.specs.Prelude.{◌≡◌, ◌≢◌, ◌⊎◌, ℕ, false, List, [], ◌∷◌, ◌++◌, None, Some, codes, IsUtf8}
 use Rattle.opentelemetry.specs.Plain.{unset}
 use Rattle.opentelemetry.specs.declared.trace.span_kind.SpanKind.TheVariants as kinds
 use Rattle.otel_resource.specs.Resource.{empty_resource}
@@ -84,10 +84,6 @@ TakesFields word fields order = TakesProducer word fields order
 abbrev pub ReadsOrder : List ℕ → Order → Type 0
 ReadsOrder line order = IsUtf8 line × (IsWord line order
     ⊎ ((word fields : List ℕ) × IsField word × (line ≡ word ++ 32 ∷ fields) × TakesFields word fields order))
-
--- what is found is an order of this kind, and none only where there is none
-abbrev pub Finds : (Order → Type 0) → Option Order → Type 0
-Finds reads found = MatchOption found ((order : Order) → reads order → ⊥) reads
 
 -- one of the orders of this kind offers a span
 abbrev pub SomeOffer : (Order → Type 0) → Type 0

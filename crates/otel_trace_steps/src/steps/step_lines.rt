@@ -2,8 +2,9 @@
 //! word, a producer and the name of a span.
 
 ghost use Rattle.std.specs.Prelude.{◌≡◌, ◌≢◌, IfOk, IfSome, IsOk, IsTrue, ◌↔◌};
+ghost use Rattle.otel_trace_lines.specs.Found.{Finds};
 ghost use Rattle.otel_trace_lines.specs.Lines.{IsField};
-ghost use Rattle.otel_trace_steps.specs.StepLines.{Finds, IsWord, ReadsOrder, SomeOffer, TakesFields, TakesName, TakesProducer, named_span};
+ghost use Rattle.otel_trace_steps.specs.StepLines.{IsWord, ReadsOrder, SomeOffer, TakesFields, TakesName, TakesProducer, named_span};
 
 use opentelemetry::trace::{SpanContext, SpanKind, Status, TraceState};
 use opentelemetry::{InstrumentationScope, Moment, SpanId, TraceFlags, TraceId};

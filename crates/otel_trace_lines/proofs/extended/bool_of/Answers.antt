@@ -9,7 +9,7 @@ use Rattle.otel_trace_lines.proofs.extended.bool_of.Goals as goal
 pub returns-in_default-clause-found : goal.returns-in_default-clause-found
 returns-in_default-clause-found c = only_bool c.args.fields.now (λ span key value h.
     let parts = ends_as c.args.fields.now span key (truth value) h in
-    c.in_default.ensures span key parts.0 parts.1)
+    c.in_default.ensures (span, key, parts.0) parts.1)
 
 pub returns-in_default-truth_of-clause-found : goal.returns-in_default-truth_of-clause-found
 returns-in_default-truth_of-clause-found c = only_bool c.args.fields.now (λ span key value h.

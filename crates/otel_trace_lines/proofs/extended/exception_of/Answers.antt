@@ -8,13 +8,13 @@ use Rattle.otel_trace_lines.proofs.extended.exception_of.Goals as goal
 pub returns-in_default-clause-found : goal.returns-in_default-clause-found
 returns-in_default-clause-found c = only_exception c.args.fields.now (λ span kind moment message h.
     let parts = ends_as c.args.fields.now span kind (instant moment (rest_of_line message)) h in
-    c.in_default.ensures span kind parts.0 parts.1)
+    c.in_default.ensures (span, kind, parts.0) parts.1)
 
 pub returns-in_default-moment_and_rest-clause-found : goal.returns-in_default-moment_and_rest-clause-found
 returns-in_default-moment_and_rest-clause-found c = only_exception c.args.fields.now (λ span kind moment message h.
     let parts = ends_as c.args.fields.now span kind (instant moment (rest_of_line message)) h in
     let same = one_rest c.args.fields.now c.in-Some.span.now c.in-Some.exception_type.now c.in-Some.rest.now span kind parts.0 c.in-Some.ensures parts.1 in
-    c.in_default-moment_and_rest.ensures moment message (rw (← same) parts.2))
+    c.in_default-moment_and_rest.ensures (moment, message) (rw (← same) parts.2))
 
 -- where a text of it finds no memory, an exception stands there
 pub returns-in_err-from_str-clause-free : goal.returns-in_err-from_str-clause-free

@@ -9,7 +9,7 @@ use Rattle.otel_trace_lines.proofs.extended.float_of.Goals as goal
 pub returns-in_default-clause-found : goal.returns-in_default-clause-found
 returns-in_default-clause-found c = only_float c.args.fields.now (λ span key value h.
     let parts = ends_as c.args.fields.now span key (float value) h in
-    c.in_default.ensures span key parts.0 parts.1)
+    c.in_default.ensures (span, key, parts.0) parts.1)
 
 pub returns-in_default-parse_float-clause-found : goal.returns-in_default-parse_float-clause-found
 returns-in_default-parse_float-clause-found c = only_float c.args.fields.now (λ span key value h.

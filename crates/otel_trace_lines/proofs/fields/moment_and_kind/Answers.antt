@@ -9,13 +9,13 @@ use Rattle.otel_trace_lines.proofs.fields.moment_and_kind.Goals as goal
 
 pub returns-in_err-moment_of : goal.returns-in_err-moment_of
 returns-in_err-moment_of c =
-    rw c.from_residual.ensures (no_moment c.args.dialect c.args.text.now c.in_default.ensures (none_found c.in_err-moment_of.ensures))
+    rw c.from_residual.ensures (λ parts h. no_moment c.args.dialect c.args.text.now (λ moment rest. c.in_default.ensures (moment, rest)) (none_found c.in_err-moment_of.ensures) parts.0 parts.1 h.0 h.1)
 
 pub returns-in_err-kind_of-in-Extended : goal.returns-in_err-kind_of-in-Extended
 returns-in_err-kind_of-in-Extended c =
-    rw c.from_residual-in_err-kind_of-in-Extended.ensures (no_kind c.args.dialect c.args.text.now c.in-Some.moment.0 c.in-Some.word.now c.in-Some.ensures (none_found c.in_err-kind_of-in-Extended.ensures))
+    rw c.from_residual-in_err-kind_of-in-Extended.ensures (λ parts h. no_kind c.args.dialect c.args.text.now c.in-Some.moment.0 c.in-Some.word.now c.in-Some.ensures (none_found c.in_err-kind_of-in-Extended.ensures) parts.0 parts.1 h.0 h.1)
 
 pub returns-in-Plain : goal.returns-in-Plain
-returns-in-Plain c = λ moment kind h may.
-    plain_has_none c.args.text.now c.in-Some.moment.0 c.in-Some.word.now c.in-Some.ensures moment kind h
-    (subst (λ (d : Dialect). MayHave d (is_some kind)) c.in-Plain.is may)
+returns-in-Plain c = λ parts h.
+    plain_has_none c.args.text.now c.in-Some.moment.0 c.in-Some.word.now c.in-Some.ensures parts.0 parts.1 h.0
+    (subst (λ (d : Dialect). MayHave d (is_some parts.1)) c.in-Plain.is h.1)

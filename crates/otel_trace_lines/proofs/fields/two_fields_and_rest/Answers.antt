@@ -6,6 +6,6 @@ use Rattle.otel_trace_lines.proofs.fields.two_fields_and_rest.Goals as goal
 pub returns-in_err-second : goal.returns-in_err-second
 returns-in_err-second c =
     let here = c.in_ok-first.ensures in
-    rw c.from_residual-in_err-second.ensures (λ first second rest h.
-    let after = after_field c.args.text.now c.in_ok-first.first.now c.in_ok-first.after.now here.0 here.1 first (field second (rest_of_line rest)) h in
-    c.in_err-second.ensures second after.1.0 after.0 after.1.1)
+    rw c.from_residual-in_err-second.ensures (λ parts h.
+    let after = after_field c.args.text.now c.in_ok-first.first.now c.in_ok-first.after.now here.0 here.1 parts.0 (field parts.1 (rest_of_line parts.2)) h in
+    c.in_err-second.ensures parts.1 after.1.0 after.0 after.1.1)

@@ -5,7 +5,7 @@ use Rattle.otel_trace_lines.proofs.FieldLemmas.{only_end}
 use Rattle.otel_trace_lines.proofs.lines.end_of.Goals as goal
 
 pub returns-in_default-clause-found : goal.returns-in_default-clause-found
-returns-in_default-clause-found c = only_end c.args.fields.now c.in_default.ensures
+returns-in_default-clause-found c = only_end c.args.fields.now (λ span moment. c.in_default.ensures (span, moment))
 
 -- where its text finds no memory, an end stands there
 pub returns-in_err-from_str-clause-free : goal.returns-in_err-from_str-clause-free

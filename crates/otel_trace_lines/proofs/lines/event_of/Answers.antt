@@ -11,8 +11,8 @@ use Rattle.otel_trace_lines.proofs.lines.event_of.Goals as goal
 
 pub returns-in_default-clause-found : goal.returns-in_default-clause-found
 returns-in_default-clause-found c = only_event c.args.dialect c.args.fields.now
-    (λ span name moment h. let parts = ends_as c.args.fields.now span name (time moment) h in c.in_default.ensures span name parts.0 parts.1)
-    (λ span name moment key value h may. let parts = ends_as c.args.fields.now span name (instant moment (field key (rest_of_line value))) h in c.in_default.ensures span name parts.0 parts.1)
+    (λ span name moment h. let parts = ends_as c.args.fields.now span name (time moment) h in c.in_default.ensures (span, name, parts.0) parts.1)
+    (λ span name moment key value h may. let parts = ends_as c.args.fields.now span name (instant moment (field key (rest_of_line value))) h in c.in_default.ensures (span, name, parts.0) parts.1)
 
 pub returns-in_default-moment_and_attribute-clause-found : goal.returns-in_default-moment_and_attribute-clause-found
 returns-in_default-moment_and_attribute-clause-found c = only_event c.args.dialect c.args.fields.now
@@ -23,7 +23,7 @@ returns-in_default-moment_and_attribute-clause-found c = only_event c.args.diale
     (λ span name moment key value h may.
     let parts = ends_as c.args.fields.now span name (instant moment (field key (rest_of_line value))) h in
     let same = one_rest c.args.fields.now c.in-Some.span.now c.in-Some.name.now c.in-Some.rest.now span name parts.0 c.in-Some.ensures parts.1 in
-    c.in_default-moment_and_attribute.ensures moment key value (rw (← same) parts.2) may)
+    c.in_default-moment_and_attribute.ensures (moment, key, value) (rw (← same) parts.2, may))
 
 -- where a text of it finds no memory, an event stands there
 event_there : (dialect : Dialect) (fields span name rest : List ℕ) (moment : ℕ) → IsOfForm fields (field span (field name (rest_of_line rest))) → IsOfForm rest (time moment) → AreFieldsIn dialect (codes "event") fields

@@ -8,13 +8,13 @@ use Rattle.otel_trace_lines.proofs.lines.start_of.Goals as goal
 pub returns-in_default-clause-found : goal.returns-in_default-clause-found
 returns-in_default-clause-found c = only_start c.args.dialect c.args.fields.now (λ span name moment kind h may.
     let parts = ends_as c.args.fields.now span name (start_form moment kind) h in
-    c.in_default.ensures span name parts.0 parts.1)
+    c.in_default.ensures (span, name, parts.0) parts.1)
 
 pub returns-in_default-moment_and_kind-clause-found : goal.returns-in_default-moment_and_kind-clause-found
 returns-in_default-moment_and_kind-clause-found c = only_start c.args.dialect c.args.fields.now (λ span name moment kind h may.
     let parts = ends_as c.args.fields.now span name (start_form moment kind) h in
     let same = one_rest c.args.fields.now c.in-Some.span.now c.in-Some.name.now c.in-Some.rest.now span name parts.0 c.in-Some.ensures parts.1 in
-    c.in_default-moment_and_kind.ensures moment kind (rw (← same) parts.2) may)
+    c.in_default-moment_and_kind.ensures (moment, kind) (rw (← same) parts.2, may))
 
 -- where a text of it finds no memory, such a start stands there
 pub returns-in_err-from_str-clause-free : goal.returns-in_err-from_str-clause-free
