@@ -11,7 +11,7 @@ use Rattle.otel_pipeline.specs.Provider.{unstarted_context, ProviderState}
 use Rattle.otel_pipeline.specs.SpanHistory.{PlainSpan, SpanHistory, begun, over, span_of}
 use Rattle.otel_pipeline.specs.StartRequest.{StartRequest}
 use Rattle.otel_pipeline.specs.Starting.{StartsOpen}
-use Rattle.otel_pipeline.proofs.AgreementLemmas.{child_agrees, child_of_start}
+use Rattle.otel_pipeline.proofs.AgreementLemmas.{child_agrees, child_under}
 use Rattle.otel_trace_lines.specs.Commands.{PlainCommand}
 use Rattle.otel_trace_lines.specs.PlainReply.{PlainReply}
 use Rattle.otel_trace_lines.specs.declared.reply.Answer.{Answer}
@@ -155,7 +155,8 @@ module _ {P S G : Type 0} (calls : Calls P S G) where
         absurd (true_is_no (made_span turn.answer) (ap made_span h.says) made)
     taken_joins None scope turn span parent q builder moment father by_parents is_open agrees name made h =
         let cx = child_cx (span_of father).span_context in
-        let is_child = child_of_start calls.processor calls.sampler calls.ids turn.before.provider turn.after.provider (request_of (start_in scope cx span builder moment)) h.history (span_of father).span_context by_parents is_open refl refl h.starts in
+        let is_child = child_under calls.processor calls.sampler calls.ids turn.before.provider turn.after.provider (request_of (start_in scope cx span builder moment)) h.history (span_of father).span_context
+        (record { is_open = is_open; is_unsuppressed = refl; is_active = refl; starts = h.starts }) (λ question. by_parents question (span_of father).span_context) in
         let put : turn.after.histories span ≡ Some h.history = ap (λ (histories : Histories). histories span) h.histories ∙ put_there (is_name span span) h.history (turn.before.histories span) (is_itself span) in
         inr (h.history, ap turn.after.histories (same_name q span name) ∙ put, child_agrees root (context_of father) (context_of h.history) agrees is_child)
 
