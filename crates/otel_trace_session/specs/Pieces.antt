@@ -19,6 +19,11 @@ pub record PlainPieces : Type 0 where
 abbrev pub EndsNoLine : List ℕ → Type 0
 EndsNoLine bytes = All (λ b. b ≢ 10) bytes
 
+-- the last line that ends among bytes ends here
+abbrev pub LastEnds : List ℕ → ℕ → Type 0
+LastEnds bytes end =
+    (0 < end) × (end ≤ length bytes) × (slice_index bytes (end - 1) ≡ 10) × EndsNoLine (drop end bytes)
+
 -- a call read on after a rest: there are lines, whole ones; or the input is at its end, and nothing is left behind
 -- them
 pub record GivesLines (before after : Option (List ℕ)) (rest : List ℕ) (goes_on : Bool) (now : PlainPieces)

@@ -4,7 +4,7 @@
 ghost use Rattle.std.specs.Prelude.{◌≡◌, ◌≢◌, ◌+◌, ◌-◌, ◌<◌, ◌≤◌, [], All, IfOk, MatchOption, OnErr, OnOk, length, take, drop, slice_index};
 ghost use Rattle.std.specs.Io.{ReadsAtMost};
 ghost use Rattle.std.specs.Io.KnownBytes.{Consumes, IsAtEnd, Keeps};
-ghost use Rattle.otel_trace_session.specs.Pieces.{Brings, EndsLines, GivesLines, KeepsAll};
+ghost use Rattle.otel_trace_session.specs.Pieces.{Brings, EndsLines, EndsNoLine, GivesLines, KeepsAll, LastEnds};
 
 use std::alloc::Global;
 use std::io;
@@ -125,10 +125,7 @@ fn fill_to_line<R: Read>(
 
 /// How many bytes stand up to the last line feed, and it among them; none where there is no line feed.
 fn last_line_end(bytes: &[u8]) -> Option<usize>
-    ensures { MatchOption result
-        (All (λ b. b ≢ 10) bytes.now)
-        (λ end. (0 < end) × (end ≤ length bytes.now) × (slice_index bytes.now (end - 1) ≡ 10)
-        × All (λ b. b ≢ 10) (drop end bytes.now)) }
+    ensures { MatchOption result (EndsNoLine bytes.now) (LastEnds bytes.now) }
 {
     let mut end = bytes.len();
     while end > 0 {

@@ -1,5 +1,6 @@
 -- What lines of steps do to a batch queue over an exporter in memory, and the text that answers them.
-use Rattle.std.specs.Prelude.{◌≡◌, ◌⊎◌, ℕ, ◌+◌, List, [], ◌∷◌, ◌++◌, Option, Some, None, Ok}
+use Rattle.std.specs.Prelude.{◌≡◌, ◌⊎◌, ℕ, ◌+◌, List, [], ◌∷◌, ◌++◌, length, Option, Some, None, Ok}
+use Rattle.std.specs.Option.{option_map}
 use Rattle.std.specs.Str.Lines.{lines}
 use Rattle.otel_batch.specs.PlainBatchConfig.{PlainBatchConfig, default_batch_config, cut_to_queue}
 use Rattle.otel_export.specs.StoredBatches.{StoredBatches, StoresBatch, none_stored, stored_told}
@@ -78,6 +79,12 @@ ObeysEach m number ((b ∷ bytes) ∷ more) bad_line text after =
 -- what a text does to a machine, and the text that answers it
 abbrev pub AnswersLines : Machine StoredBatches → List ℕ → Option ℕ → List ℕ → Machine StoredBatches → Type 0
 AnswersLines m text bad_line answers after = ObeysEach m 0 (lines text) bad_line answers after
+
+-- where a text has no bad line, another after its end goes on from what it does, with its lines counted through
+abbrev pub GoesOn : List ℕ → List ℕ → Type 0
+GoesOn first second = (m middle after : Machine StoredBatches) (bad_line : Option ℕ) (answers more : List ℕ)
+    → AnswersLines m first None answers middle → AnswersLines middle second bad_line more after
+    → AnswersLines m (first ++ second) (option_map (λ n. length (lines first) + n) bad_line) (answers ++ more) after
 
 -- the lines of a text in front of one of them were obeyed and answered, and that one got no answer
 pub record AnswersBeginning (m : Machine StoredBatches) (text answers : List ℕ) (after : Machine StoredBatches)
