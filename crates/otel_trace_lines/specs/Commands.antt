@@ -81,6 +81,14 @@ abbrev pub is_end : PlainCommand → Bool
 is_end (end span moment) = true
 is_end _ = false
 
+-- whether a command may have a batch exported: it ends a span, or calls the provider
+abbrev pub may_export : PlainCommand → Bool
+may_export (end span moment) = true
+may_export flush = true
+may_export (run moment) = true
+may_export shutdown = true
+may_export _ = false
+
 -- what commands ask for, in order
 abbrev pub plain_commands : List Command → List PlainCommand
 plain_commands = map plain_command

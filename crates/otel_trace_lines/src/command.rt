@@ -1,7 +1,7 @@
 //! What a line of the input can ask for.
 
 ghost use Rattle.std.specs.Prelude.{◌≡◌};
-ghost use Rattle.otel_trace_lines.specs.Commands.{is_end, plain_command};
+ghost use Rattle.otel_trace_lines.specs.Commands.{is_end, may_export, plain_command};
 
 use opentelemetry::Moment;
 use opentelemetry::trace::{SpanKind, Status};
@@ -118,5 +118,15 @@ impl Command {
         ensures { result ≡ is_end (plain_command self.now) }
     {
         matches!(self, Command::End { .. })
+    }
+
+    /// Whether it may have a batch exported: it ends a span, or calls the provider.
+    pub fn may_export(&self) -> bool
+        ensures { result ≡ may_export (plain_command self.now) }
+    {
+        matches!(
+            self,
+            Command::End { .. } | Command::Flush | Command::Run { .. } | Command::Shutdown
+        )
     }
 }

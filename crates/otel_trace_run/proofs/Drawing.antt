@@ -38,9 +38,8 @@ use Rattle.otel_trace_session.specs.Shown.{exported_in}
 use Rattle.otel_trace_session.specs.Turn.{Course, Turn}
 use Rattle.otel_trace_session.specs.Turns.{AreTurns, BeginsUnder, Runs, SessionState, course_of, reply_of}
 use Rattle.otel_trace_session.proofs.CloseLemmas.{ends_well, none_lost}
-use Rattle.otel_trace_session.specs.Taking.{TakesShown}
-use Rattle.otel_pipeline.proofs.FirstKeeps.{taken_all}
-use Rattle.otel_trace_session.proofs.TakingLemmas.{taken_dropped, taken_open}
+use Rattle.otel_trace_session.specs.Taking.{TakesKept}
+use Rattle.otel_trace_session.proofs.TakingLemmas.{kept_dropped, kept_open, kept_shut, kept_taken}
 use Rattle.otel_trace_run.proofs.Exporting.{nothing_described, since_begun}
 
 -- an answer without an error
@@ -65,7 +64,7 @@ module _ {P S G : Type 0} (calls : Calls P S G) where
   record StandsShut (old : SessionState P S G) (replies : List PlainReply) (new : SessionState P S G) : Type 0 where
     pub closed : ProviderState P S G
     pub shuts : ShutsIfOpen calls.processor old.provider (Ok tt) closed
-    pub takes : TakesShown calls.processor calls.queues calls.keeps closed new.provider
+    pub takes : TakesKept calls closed new.provider
     pub is_shut : new.provider.is_shut ≡ true
     pub shows : exported_in replies ≡ batches_of_first calls.keeps closed.processors
 
@@ -82,12 +81,12 @@ module _ {P S G : Type 0} (calls : Calls P S G) where
       let answered : IsTrue (says_shut (call_answer asks.said)) =
       subst (λ answer. IsTrue (says_shut answer)) asks.says (says 0 (reply_of calls turn) (omega arith)) in
       let done = shut_by (shut_answer turn.before.provider.is_disabled turn.before.provider.processors) turn.before.provider turn.after.provider asks.said turn.before.provider.is_shut refl answered asks.gives in
-      let takes = subst (λ (p : ProviderState P S G). TakesShown calls.processor calls.queues calls.keeps turn.after.provider p) there h.3.1.takes in
+      let takes = subst (λ (p : ProviderState P S G). TakesKept calls turn.after.provider p) there h.3.1.takes in
       record {
         closed = turn.after.provider;
         shuts = subst (λ (p : ProviderState P S G). ShutsIfOpen calls.processor p (Ok tt) turn.after.provider) from done.0;
         takes = takes;
-        is_shut = ap (λ (p : ProviderState P S G). p.is_shut) takes.rest ∙ done.1;
+        is_shut = kept_shut calls turn.after.provider new.provider takes ∙ done.1;
         shows = append-nil _;
       }
 
@@ -123,14 +122,14 @@ module _ {P S G : Type 0} (calls : Calls P S G)
       let same : closed.provider ≡ after.provider =
       stays_shut calls after.provider closed.provider closed.shutdown after.provider.is_shut shut.is_shut closed.shuts in
       let kept : losses_of_first calls.keeps shut.closed.processors ≡ middle.lost_before =
-      sym (ap (λ (s : StoredBatches). s.lost) (taken_all calls shut.closed.processors after.provider.processors shut.takes.first))
+      sym (ap (λ (s : StoredBatches). s.lost) (kept_taken calls shut.closed after.provider shut.takes))
       ∙ ap (λ (p : ProviderState P S G). losses_of_first calls.keeps p.processors) (sym same)
       ∙ none_lost calls picture_lines after [] left closed ∙ ran.shut.ran.lost_before in
       let none_open : sum_by calls.queues.open_over shut.closed.processors ≡ 0 =
-      sym (taken_open calls shut.closed.processors after.provider.processors shut.takes.first)
+      sym (kept_open calls shut.closed after.provider shut.takes)
       ∙ ap (λ (p : ProviderState P S G). sum_by calls.queues.open_over p.processors) (sym same) ∙ left_open in
       let none_dropped : sum_by calls.queues.dropped_over shut.closed.processors ≡ 0 =
-      sym (taken_dropped calls shut.closed.processors after.provider.processors shut.takes.first)
+      sym (kept_dropped calls shut.closed after.provider shut.takes)
       ∙ ap (λ (p : ProviderState P S G). sum_by calls.queues.dropped_over p.processors) (sym same) ∙ dropped in
       let replied = texts picture_lines ran.replies in
       let all : exported_in (ran.replies ++ ran.last) ≡ exported_since calls provider shut.closed =

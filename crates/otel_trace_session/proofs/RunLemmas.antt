@@ -11,7 +11,7 @@ use Rattle.otel_trace_session.specs.Fed.{WhyUnwritten, feed_error}
 use Rattle.otel_trace_session.specs.Shown.{session_batches}
 use Rattle.otel_trace_session.specs.Stops.{AnswerStops, Answers, HasNoReply, RunsBeginning, WhyUntold}
 use Rattle.otel_trace_session.specs.OpenSpans.{Describe, NamedSpans}
-use Rattle.otel_trace_session.specs.Taking.{TakesShown}
+use Rattle.otel_trace_session.specs.Taking.{TakesKept}
 use Rattle.otel_trace_session.specs.Turn.{Course, Turn}
 use Rattle.otel_trace_session.specs.Turns.{AreTurns, Runs, SessionState, course_of, reply_of}
 use Rattle.otel_trace_session.specs.declared.session.RunError.{RunError}
@@ -50,7 +50,7 @@ module _ {P S G : Type 0} (calls : Calls P S G) where
 
   -- from an answer to where a session stands after its reply, which took the batches that it shows
   pub record TookShown (answered new : SessionState P S G) : Type 0 where
-    pub takes : TakesShown calls.processor calls.queues calls.keeps answered.provider new.provider
+    pub takes : TakesKept calls answered.provider new.provider
     pub rest : new ≡ record answered { provider = new.provider }
 
   -- one command, with a reply that shows what is kept after it

@@ -14,7 +14,7 @@ use Rattle.otel_trace_session.specs.Shown.{Shows, all_stored, exported_in}
 use Rattle.otel_trace_session.specs.Turn.{Course, Turn}
 use Rattle.otel_trace_session.specs.Turns.{AreTurns, SessionState, course_of, reply_of}
 use Rattle.otel_pipeline.proofs.FirstKeeps.{shutdown_grows}
-use Rattle.otel_pipeline.proofs.FirstKeeps.{taken_all}
+use Rattle.otel_trace_session.proofs.TakingLemmas.{kept_taken}
 
 abbrev Batches : Type 0
 Batches = List (List PlainSpanData)
@@ -58,7 +58,7 @@ module _ {P S G : Type 0} (calls : Calls P S G) where
   all_show scope old new [] (turn ∷ turns) h = absurd h
   all_show scope old new (command ∷ commands) [] h = absurd h
   all_show scope old new (command ∷ commands) (turn ∷ turns) h = subst (λ (c : Course P S G). ShowsTo c (map (reply_of calls) (turn ∷ turns)) new) h.0
-      (shows_more turn h.3.0 (map (reply_of calls) turns) new h.1.adds (taken_all calls turn.after.provider.processors h.3.0.provider.processors h.3.1.takes.first) (all_show scope h.3.0 new commands turns h.3.2))
+      (shows_more turn h.3.0 (map (reply_of calls) turns) new h.1.adds (kept_taken calls turn.after.provider h.3.0.provider h.3.1.takes) (all_show scope h.3.0 new commands turns h.3.2))
 
   -- after a reply none is kept
   none_after : (scope : PlainScope) (old new : Course P S G) (commands : List PlainCommand) (turns : List (Turn P S G)) → (stored old).batches ≡ [] → AreTurns calls scope old commands turns new → (stored new).batches ≡ []
@@ -66,14 +66,14 @@ module _ {P S G : Type 0} (calls : Calls P S G) where
   none_after scope old new [] (turn ∷ turns) none h = absurd h
   none_after scope old new (command ∷ commands) [] none h = absurd h
   none_after scope old new (command ∷ commands) (turn ∷ turns) none h = none_after scope h.3.0 new commands turns
-      (ap (λ (s : StoredBatches). s.batches) (taken_all calls turn.after.provider.processors h.3.0.provider.processors h.3.1.takes.first)) h.3.2
+      (ap (λ (s : StoredBatches). s.batches) (kept_taken calls turn.after.provider h.3.0.provider h.3.1.takes)) h.3.2
 
   none_left : (scope : PlainScope) (old new : Course P S G) (commands : List PlainCommand) (turns : List (Turn P S G)) → AreTurns calls scope old commands turns new → (map (reply_of calls) turns ≡ []) ⊎ ((stored new).batches ≡ [])
   none_left scope old new commands [] h = inl refl
   none_left scope old new [] (turn ∷ turns) h = absurd h
   none_left scope old new (command ∷ commands) (turn ∷ turns) h =
       inr (none_after scope h.3.0 new commands turns
-      (ap (λ (s : StoredBatches). s.batches) (taken_all calls turn.after.provider.processors h.3.0.provider.processors h.3.1.takes.first)) h.3.2)
+      (ap (λ (s : StoredBatches). s.batches) (kept_taken calls turn.after.provider h.3.0.provider h.3.1.takes)) h.3.2)
 
   pub all_shown : (old new : SessionState P S G) (histories after : Histories) (commands : List PlainCommand) (turns : List (Turn P S G)) (replies : List PlainReply) → replies ≡ map (reply_of calls) turns
       → AreTurns calls old.scope (course_of old histories) commands turns (course_of new after) → Shows calls.keeps old replies new

@@ -1,5 +1,5 @@
 -- Why the commands of a session were not carried out to their end: one was refused, or has no reply.
-use Rattle.std.specs.Prelude.{◌≡◌, ◌⊎◌, ◌∷◌, ◌++◌, ℕ, List, Option, true}
+use Rattle.std.specs.Prelude.{◌≡◌, ◌⊎◌, ◌∷◌, ◌++◌, ℕ, List, Option, Result, Ok, Err, true}
 use Rattle.opentelemetry.specs.PlainContexts.{root_cx}
 use Rattle.opentelemetry.specs.PlainSpanBuilder.{PlainSpanBuilder}
 use Rattle.otel_export.specs.KeptBatches.{OnlyAdds}
@@ -55,7 +55,12 @@ module _ {P S G : Type 0} (calls : Calls P S G) where
   CarriesOut old command answer new = TurnsFromAny (IsCarriedOut calls old.scope (action_of (plain_command command)))
       old.provider old.spans answer new.provider new.spans
 
-  -- the same, and no batch was lost, but at a flush, a run or a shutdown
+  -- a command of a session was carried out, or refused, by what it comes to
+  abbrev pub Obeys : {E : Type 0} → SessionState P S G → Command → Result Answer E → SessionState P S G → Type 0
+  Obeys old command (Ok answer) new = CarriesOut old command answer new
+  Obeys old command (Err _) new = Refuses old command new
+
+  -- it was carried out, and no batch was lost, but at a flush, a run or a shutdown
   pub record Answers (old : SessionState P S G) (command : Command) (answer : Answer) (new : SessionState P S G)
       : Type 0 where
     pub carried : CarriesOut old command answer new

@@ -14,7 +14,7 @@ use Rattle.otel_trace_session.specs.Calls.{Calls, batches_of_first, losses_of_fi
 use Rattle.otel_trace_session.specs.OpenSpans.{Describe, Histories, NamedSpans}
 use Rattle.otel_trace_session.specs.ProviderTurns.{AsksProvider, CallGives}
 use Rattle.otel_trace_session.specs.SpanTurns.{EditTurn, EndTurn, ForgetTurn, InjectTurn, LinkTurn, StartsFrom}
-use Rattle.otel_trace_session.specs.Taking.{TakesShown}
+use Rattle.otel_trace_session.specs.Taking.{TakesKept, TakesShown}
 use Rattle.otel_trace_session.specs.Turn.{Course, Turn}
 
 -- a session: its provider, the library's scope, its spans, and how many batches were lost before it
@@ -71,9 +71,9 @@ module _ {P S G : Type 0} (calls : Calls P S G) where
   reply_of turn =
       record { exported = batches_of_first calls.keeps turn.after.provider.processors; answer = turn.answer }
 
-  -- where a session stands after a reply, which takes the batches that it shows
+  -- where a session stands after a reply, which takes the batches that it shows, if there are some
   pub record Replied (course next : Course P S G) : Type 0 where
-    pub takes : TakesShown calls.processor calls.queues calls.keeps course.provider next.provider
+    pub takes : TakesKept calls course.provider next.provider
     pub histories : next.histories ≡ course.histories
 
   -- commands were carried out in turns, each from where the one before it stands after its reply

@@ -1,8 +1,7 @@
 //! A session: commands against one provider, each with a reply. What its commands deliver to the exporters is stated by
 //! the histories of its spans, apart from the code that fills them.
 
-ghost use Rattle.std.specs.Prelude.{◌≡◌, ◌++◌, ◌∷◌, [], length, map, IfErr, IfOk};
-ghost use Rattle.std.specs.Prelude.{◌↔◌, IsTrue, OnOk, OnErr};
+ghost use Rattle.std.specs.Prelude.{◌≡◌, ◌++◌, ◌↔◌, map, IfErr, IfOk, IsTrue, OnErr, OnOk};
 ghost use Rattle.opentelemetry.specs.PlainContexts.{root_cx};
 ghost use Rattle.otel_export.specs.KeptBatches.{OnlyAdds};
 ghost use Rattle.otel_trace_lines.specs.ReplyForm.{reply_lines};
@@ -10,10 +9,10 @@ ghost use Rattle.otel_trace_lines.specs.declared.dialect.Dialect.TheVariants as 
 ghost use Rattle.otel_trace_session.specs.Calls.{calls_of};
 ghost use Rattle.otel_trace_session.specs.Closing.{Closes, ClosesAs, LostNothing};
 ghost use Rattle.otel_trace_session.specs.Fed.{FeedStops, Feeds, Writes};
-ghost use Rattle.otel_trace_session.specs.OpenSpans.{Describe, Histories};
+ghost use Rattle.otel_trace_session.specs.OpenSpans.{Describe, HaveHistories, Histories};
 ghost use Rattle.otel_trace_session.specs.Shown.{session_batches, session_losses, session_stored};
-ghost use Rattle.otel_trace_session.specs.Stops.{AnswerStops, Answers, Gains, RunStops};
-ghost use Rattle.otel_trace_session.specs.Taking.{TakesShown};
+ghost use Rattle.otel_trace_session.specs.Stops.{AnswerStops, Answers, Gains, Obeys, RunStops};
+ghost use Rattle.otel_trace_session.specs.Taking.{TakesKept};
 ghost use Rattle.otel_trace_session.specs.Turns.{BeginsUnder, Runs};
 
 use crate::carry_out::carry_out;
@@ -117,21 +116,23 @@ impl ClosedSession {
 }
 
 /// Commands against one provider. It must be spent by `close` or `close_in`.
-pub struct Session<P, S, G> {
+pub struct Session<P: KeepsBatches, S, G> {
     provider: ProviderOf<P, S, G>,
     tracer: SdkTracer,
     // Where a root span starts.
     root: Context,
     spans: OpenSpans,
+    // Whether the first processor may keep a batch: until one is exported there is none to ask for.
+    may_keep: bool,
     // How many batches of the first processor had found no memory when the session began.
     lost_before: u64,
     alloc: Global,
 }
 
-impl<P, S, G> Model for Session<P, S, G> {
-    ghost use Rattle.std.specs.Prelude.{◌≡◌};
+impl<P: KeepsBatches, S, G> Model for Session<P, S, G> {
+    ghost use Rattle.std.specs.Prelude.{◌≡◌, [], IsFalse};
     ghost use Rattle.opentelemetry.specs.PlainContexts.{root_cx};
-    ghost use Rattle.otel_trace_session.specs.Taking.{TakesShown};
+    ghost use Rattle.otel_trace_session.specs.Calls.{batches_of_first};
     ghost use Rattle.otel_trace_session.specs.Turns.{SessionState};
 
     ghost Value = { SessionState P S G };
@@ -143,7 +144,8 @@ impl<P, S, G> Model for Session<P, S, G> {
       lost_before = a.lost_before;
     } };
 
-    ghost invariant = { λ a. a.root ≡ root_cx };
+    ghost invariant = { λ a. (a.root ≡ root_cx)
+        × (IsFalse a.may_keep → batches_of_first P.KeepsBatches a.provider.processors ≡ []) };
 }
 
 impl<P: KeepsBatches, S: ShouldSample, G: GivesIds> Session<P, S, G> {
@@ -169,6 +171,7 @@ impl<P: KeepsBatches, S: ShouldSample, G: GivesIds> Session<P, S, G> {
             tracer,
             root: Context::new(),
             spans: OpenSpans::new(alloc),
+            may_keep: false,
             lost_before,
             alloc,
         })
@@ -261,6 +264,7 @@ impl<P: KeepsBatches, S: ShouldSample, G: GivesIds> Session<P, S, G> {
             tracer: _,
             root: _,
             spans,
+            may_keep: _,
             lost_before,
             alloc: _,
         } = self;
@@ -317,6 +321,9 @@ impl<P: KeepsBatches, S: ShouldSample, G: GivesIds> Session<P, S, G> {
         ensures err { OnErr result (output.new.items ≡ output.old.items) }
         ensures form { F.form form.new ≡ F.form form.old }
     {
+        if !self.may_keep {
+            return form.write_reply(output, &[], answer);
+        }
         form.write_reply(output, kept_by_first(self.provider.processors()), answer)
     }
 
@@ -333,21 +340,35 @@ impl<P: KeepsBatches, S: ShouldSample, G: GivesIds> Session<P, S, G> {
         ensures keeps { OnlyAdds (session_stored P.KeepsBatches.own self.old)
             (session_stored P.KeepsBatches.own self.new) }
     {
-        self.spans.have_histories();
-        let ends_span = command.ends_span();
+        if !command.ends_span() {
+            return Ok(self.obey(command)?);
+        }
         let lost = self.lost_batches();
-        let answer = carry_out(
+        let answer = self.obey(command)?;
+        if self.lost_batches() != lost {
+            return Err(RunError::BatchLost);
+        }
+        Ok(answer)
+    }
+
+    /// Carries one command out; a lost batch is no error. Where there was no memory, it was refused.
+    fn obey(&mut self, command: Command) -> Result<Answer, AllocError>
+        ensures obeys { Obeys
+            (calls_of P.SpanProcessor P.Timed.own P.CountsLeftSpans.own P.KeepsBatches.own S.ShouldSample G.GivesIds)
+            self.old command result self.new }
+        ensures rest { self.new ≡ record self.old { provider = self.new.provider; spans = self.new.spans } }
+        ensures histories { HaveHistories self.old.spans }
+    {
+        self.spans.have_histories();
+        self.may_keep |= command.may_export();
+        carry_out(
             self.alloc,
             &self.tracer,
             &self.root,
             &mut self.provider,
             &mut self.spans,
             command,
-        )?;
-        if ends_span && self.lost_batches() != lost {
-            return Err(RunError::BatchLost);
-        }
-        Ok(answer)
+        )
     }
 
     /// How many batches of the first processor found no memory.
@@ -357,13 +378,18 @@ impl<P: KeepsBatches, S: ShouldSample, G: GivesIds> Session<P, S, G> {
         lost_by_first(self.provider.processors())
     }
 
-    /// Takes the batches that the first processor's exporter keeps: a reply shows them.
+    /// Takes the batches that the first processor's exporter keeps, if it may keep one: a reply shows them.
     fn take_shown(&mut self) -> Vec<Vec<SpanData>>
         ensures taken { map (λ batch. batch.items) result.items ≡ session_batches P.KeepsBatches.own self.old }
-        ensures takes { TakesShown P.SpanProcessor P.CountsLeftSpans.own P.KeepsBatches.own
+        ensures takes { TakesKept
+            (calls_of P.SpanProcessor P.Timed.own P.CountsLeftSpans.own P.KeepsBatches.own S.ShouldSample G.GivesIds)
             self.old.provider self.new.provider }
         ensures rest { self.new ≡ record self.old { provider = self.new.provider } }
     {
+        if !self.may_keep {
+            return Vec::new(self.alloc);
+        }
+        self.may_keep = false;
         take_of_first(self.alloc, &mut self.provider)
     }
 }
