@@ -6,14 +6,13 @@ ghost use Rattle.otel_resource.specs.DetectedResource.{IsDetected};
 ghost use Rattle.otel_trace_run.specs.OtlpRuns.{ExportsUnder, encoded, otlp_form};
 ghost use Rattle.otel_trace_run.specs.Program.{strings_given};
 ghost use Rattle.otel_trace_run.specs.Streams.{streams};
-ghost use Rattle.otel_trace_session.specs.Calls.{calls_of};
 
 use crate::run_end::RunEnd;
 use crate::trace_stream::trace_input;
 use otel_export::trace::SpanData;
 use otel_otlp::write_requests;
 use otel_otlp_protobuf::{Encoding, write_delimited_requests};
-use otel_pipeline::trace::{KeepsBatches, ProviderOf};
+use otel_pipeline::trace::{KeepsBatches, ProviderOf, Provides};
 use otel_resource::resource::{Resource, ResourceStrings};
 use otel_sampling::trace::{GivesIds, ShouldSample};
 use otel_trace_lines::{Answer, Dialect, ReplyForm};
@@ -120,7 +119,7 @@ pub(crate) fn export_input<P: KeepsBatches, S: ShouldSample, G: GivesIds, R: Rea
     output: &mut W,
 ) -> RunEnd
     ensures { ExportsUnder
-        (calls_of P.SpanProcessor P.Timed.own P.CountsLeftSpans.own P.KeepsBatches.own S.ShouldSample G.GivesIds)
+        ⟦<ProviderOf<P, S, G> as Provides>⟧.calls
         (record { encoding = encoding; resource = resource }) provider
         (streams (R.remaining input.old) (R.remaining input.new) (W.contents output.old) (W.contents output.new))
         result }

@@ -10,7 +10,6 @@ ghost use Rattle.otel_trace_run.specs.Paintings.{picture_of};
 ghost use Rattle.otel_trace_run.specs.PictureRuns.{DrawsLines, DrawsUnder};
 ghost use Rattle.otel_trace_run.specs.PictureRuns.{ReadsScript, RunsOut, RunsShutdown, says_shut};
 ghost use Rattle.otel_trace_run.specs.Streams.{WhyBad, streams};
-ghost use Rattle.otel_trace_session.specs.Calls.{calls_of};
 ghost use Rattle.otel_trace_session.specs.Shown.{exported_in};
 
 use crate::reason::{Reason, reason_at};
@@ -19,7 +18,7 @@ use otel_export::error::OTelSdkError;
 use otel_export::stream::write_whole;
 use otel_export::trace::SpanData;
 use otel_picture::traces::Traces;
-use otel_pipeline::trace::{KeepsBatches, ProviderOf};
+use otel_pipeline::trace::{KeepsBatches, ProviderOf, Provides};
 use otel_sampling::trace::{GivesIds, ShouldSample};
 use otel_shown::ShownSpan;
 use otel_trace_lines::{Answer, Command, Dialect, Reply, ReplyLines, Script, parse};
@@ -106,11 +105,8 @@ pub(crate) fn draw_input<
     input: &mut R,
     output: &mut W,
 ) -> RunEnd
-    ensures { DrawsUnder
-        (calls_of P.SpanProcessor P.Timed.own P.CountsLeftSpans.own P.KeepsBatches.own S.ShouldSample G.GivesIds)
-        (D.paints painter.now) provider
-        (streams (R.remaining input.old) (R.remaining input.new) (W.contents output.old) (W.contents output.new))
-        result }
+    ensures { DrawsUnder ⟦<ProviderOf<P, S, G> as Provides>⟧.calls (D.paints painter.now) provider (streams
+        (R.remaining input.old) (R.remaining input.new) (W.contents output.old) (W.contents output.new)) result }
 {
     let mut session = match Session::new(alloc, provider) {
         Ok(session) => session,
@@ -146,11 +142,9 @@ fn draw_lines<P: KeepsBatches, S: ShouldSample, G: GivesIds, D: SpanPainter, R: 
     painter: &D,
     input: &mut R,
 ) -> Option<Drawn>
-    ensures { IfSome result (λ drawn. DrawsLines
-        (calls_of P.SpanProcessor P.Timed.own P.CountsLeftSpans.own P.KeepsBatches.own S.ShouldSample G.GivesIds)
-        (D.paints painter.now) session.old (R.remaining input.old) (R.remaining input.new)
-        drawn.bad_line drawn.picture.items session.new
-        × IfSome drawn.bad_line (λ line. WhyBad true (R.remaining input.old) line drawn.reason)) }
+    ensures { IfSome result (λ drawn. DrawsLines ⟦<ProviderOf<P, S, G> as Provides>⟧.calls (D.paints painter.now)
+        session.old (R.remaining input.old) (R.remaining input.new) drawn.bad_line drawn.picture.items session.new ×
+        IfSome drawn.bad_line (λ line. WhyBad true (R.remaining input.old) line drawn.reason)) }
 {
     let (script, reason) = read_script(alloc, input).ok()?;
     let spans = exported_by(alloc, session, script.commands)?;
@@ -185,9 +179,8 @@ fn exported_by<P: KeepsBatches, S: ShouldSample, G: GivesIds>(
     session: &mut Session<P, S, G>,
     commands: Vec<Command>,
 ) -> Option<Vec<SpanData>>
-    ensures { IfSome result (λ spans. RunsOut
-        (calls_of P.SpanProcessor P.Timed.own P.CountsLeftSpans.own P.KeepsBatches.own S.ShouldSample G.GivesIds)
-        session.old commands.items spans.items session.new) }
+    ensures { IfSome result (λ spans. RunsOut ⟦<ProviderOf<P, S, G> as Provides>⟧.calls session.old commands.items
+        spans.items session.new) }
 {
     let mut replies = Vec::new(alloc);
     let Ok(()) = session.run(commands, &mut replies) else {
@@ -211,9 +204,8 @@ fn shut_down<P: KeepsBatches, S: ShouldSample, G: GivesIds>(
     alloc: Global,
     session: &mut Session<P, S, G>,
 ) -> Option<Vec<Reply>>
-    ensures { IfSome result (λ replies. RunsShutdown
-        (calls_of P.SpanProcessor P.Timed.own P.CountsLeftSpans.own P.KeepsBatches.own S.ShouldSample G.GivesIds)
-        session.old replies.items session.new) }
+    ensures { IfSome result (λ replies. RunsShutdown ⟦<ProviderOf<P, S, G> as Provides>⟧.calls session.old
+        replies.items session.new) }
 {
     let mut commands = Vec::new(alloc);
     commands.push(Command::Shutdown).ok()?;

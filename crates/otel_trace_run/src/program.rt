@@ -14,7 +14,7 @@ use crate::mode::{Asked, AskedExport, Mode};
 use crate::otlp::{export_input, resource_of};
 use crate::pages::{OTLP_USAGE, text_of};
 use crate::picture::{PictureForm, SpanPainter, draw_input};
-use crate::provider::{SessionProvider, TraceProvider, make_provider};
+use crate::provider::{TraceProvider, make_provider};
 use crate::reason::{Reason, text_of as reason_text_of};
 use crate::request::{Request, request_of};
 use crate::run_end::RunEnd;
@@ -22,6 +22,7 @@ use crate::step_stream::step_input;
 use crate::trace_stream::trace_input;
 use crate::view::view_input;
 use otel_export::stream::write_whole;
+use otel_pipeline::trace::Provides;
 use otel_trace_lines::ReplyLines;
 use std::alloc::Global;
 use std::io::{Read, Write};
@@ -50,7 +51,7 @@ pub fn run_program<R: Read, W: Write, F: Write>(
     faults: &mut F,
 ) -> u8
     ensures { Does
-        ⟦<TraceProvider as SessionProvider>⟧.calls ⟦<PictureForm as SpanPainter>⟧.paints
+        ⟦<TraceProvider as Provides>⟧.calls ⟦<PictureForm as SpanPainter>⟧.paints
         (request_in (map string_bytes words.now))
         (streams (R.remaining input.old) (R.remaining input.new) (W.contents output.old) (W.contents output.new))
         (effects (input.new ≡ input.old) (output.new ≡ output.old) (faults.new ≡ faults.old)
@@ -73,7 +74,7 @@ fn start_mode<R: Read, W: Write, F: Write>(
     faults: &mut F,
 ) -> u8
     ensures { Does
-        ⟦<TraceProvider as SessionProvider>⟧.calls ⟦<PictureForm as SpanPainter>⟧.paints
+        ⟦<TraceProvider as Provides>⟧.calls ⟦<PictureForm as SpanPainter>⟧.paints
         (mode (plain_mode asked.entry))
         (streams (R.remaining input.old) (R.remaining input.new) (W.contents output.old) (W.contents output.new))
         (effects (input.new ≡ input.old) (output.new ≡ output.old) (faults.new ≡ faults.old)
@@ -100,7 +101,7 @@ fn show<W: Write>(text: &str, output: &mut W) -> u8
 /// Runs a mode, and says how that ended.
 fn run_mode<R: Read, W: Write>(alloc: Global, mode: Mode, input: &mut R, output: &mut W) -> RunEnd
     ensures { RunsTo
-        ⟦<TraceProvider as SessionProvider>⟧.calls ⟦<PictureForm as SpanPainter>⟧.paints (plain_mode mode.entry)
+        ⟦<TraceProvider as Provides>⟧.calls ⟦<PictureForm as SpanPainter>⟧.paints (plain_mode mode.entry)
         (streams (R.remaining input.old) (R.remaining input.new) (W.contents output.old) (W.contents output.new))
         result }
 {
@@ -121,7 +122,7 @@ fn run_trace<R: Read, W: Write>(
     output: &mut W,
 ) -> RunEnd
     ensures { RunsTo
-        ⟦<TraceProvider as SessionProvider>⟧.calls ⟦<PictureForm as SpanPainter>⟧.paints (trace asked)
+        ⟦<TraceProvider as Provides>⟧.calls ⟦<PictureForm as SpanPainter>⟧.paints (trace asked)
         (streams (R.remaining input.old) (R.remaining input.new) (W.contents output.old) (W.contents output.new))
         result }
 {
@@ -144,7 +145,7 @@ fn run_otlp<R: Read, W: Write>(
     output: &mut W,
 ) -> RunEnd
     ensures { RunsTo
-        ⟦<TraceProvider as SessionProvider>⟧.calls ⟦<PictureForm as SpanPainter>⟧.paints
+        ⟦<TraceProvider as Provides>⟧.calls ⟦<PictureForm as SpanPainter>⟧.paints
         (otlp export (map string_bytes given.now))
         (streams (R.remaining input.old) (R.remaining input.new) (W.contents output.old) (W.contents output.new))
         result }
@@ -168,7 +169,7 @@ fn run_picture<R: Read, W: Write>(
     output: &mut W,
 ) -> RunEnd
     ensures { RunsTo
-        ⟦<TraceProvider as SessionProvider>⟧.calls ⟦<PictureForm as SpanPainter>⟧.paints (picture asked form)
+        ⟦<TraceProvider as Provides>⟧.calls ⟦<PictureForm as SpanPainter>⟧.paints (picture asked form)
         (streams (R.remaining input.old) (R.remaining input.new) (W.contents output.old) (W.contents output.new))
         result }
 {

@@ -3,18 +3,15 @@
 
 ghost use Rattle.std.specs.Prelude.{◌≡◌, IfOk};
 ghost use Rattle.otel_trace_run.specs.Program.{IsProviderOf, SamplesRoots, processor_of};
-ghost use Rattle.otel_trace_session.specs.Calls.{Calls, calls_of};
 
 use crate::mode::{Asked, AskedProcessor};
 use opentelemetry_sdk::trace::{BatchSpanProcessor, ProcessorOf};
 use otel_batch::trace::BatchConfigBuilder;
 use otel_export::trace::{ExporterOf, InMemorySpanExporter, NoExporter};
 use otel_pipeline::trace::provider::provider_over;
-use otel_pipeline::trace::{KeepsBatches, ProviderOf, SimpleSpanProcessor, SpanProcessor};
+use otel_pipeline::trace::{ProviderOf, SimpleSpanProcessor, SpanProcessor};
 use otel_resource::resource::Resource;
-use otel_sampling::trace::{
-    ConfigOf, GivesIds, NoSampler, RandomIdGenerator, SamplerOf, ShouldSample, SpanLimits,
-};
+use otel_sampling::trace::{ConfigOf, NoSampler, RandomIdGenerator, SamplerOf, SpanLimits};
 use std::alloc::{AllocError, Global};
 
 /// What the program's processors export to.
@@ -31,29 +28,6 @@ type ProviderOver<P> = ProviderOf<P, TraceSampler, RandomIdGenerator>;
 
 /// The program's provider.
 pub type TraceProvider = ProviderOver<TraceProcessor>;
-
-/// A provider under which a session can run.
-pub trait SessionProvider {
-    type Processor;
-
-    type Sampler;
-
-    type Ids;
-
-    /// What is said of the calls of its processors, of its sampler and of its source of ids.
-    ghost calls: { Calls Self.Processor Self.Sampler Self.Ids };
-}
-
-impl<P: KeepsBatches, S: ShouldSample, G: GivesIds> SessionProvider for ProviderOf<P, S, G> {
-    type Processor = P;
-
-    type Sampler = S;
-
-    type Ids = G;
-
-    ghost calls = { calls_of P.SpanProcessor P.Timed.own P.CountsLeftSpans.own P.KeepsBatches.own
-        S.ShouldSample G.GivesIds };
-}
 
 /// The provider that is asked for. Where nobody reads how many spans a queue drops, its batch processor is eager.
 pub(crate) fn make_provider(

@@ -12,14 +12,13 @@ ghost use Rattle.otel_trace_run.specs.TraceRuns.{
   Traces,
   TracesUnder,
 };
-ghost use Rattle.otel_trace_session.specs.Calls.{calls_of};
 ghost use Rattle.otel_trace_session.specs.declared.session.FeedError.{FeedError};
 
 use crate::line_count::{bad_line_after, lines_counted};
 use crate::reason::reason_at;
 use crate::run_end::RunEnd;
 use otel_export::stream::write_whole;
-use otel_pipeline::trace::{KeepsBatches, ProviderOf};
+use otel_pipeline::trace::{KeepsBatches, ProviderOf, Provides};
 use otel_sampling::trace::{GivesIds, ShouldSample};
 use otel_trace_lines::ReplyForm;
 use otel_trace_session::{FeedError, Pieces, Session};
@@ -35,11 +34,8 @@ pub fn trace_input<P: KeepsBatches, S: ShouldSample, G: GivesIds, F: ReplyForm, 
     input: &mut R,
     output: &mut W,
 ) -> RunEnd
-    ensures { TracesUnder
-        (calls_of P.SpanProcessor P.Timed.own P.CountsLeftSpans.own P.KeepsBatches.own S.ShouldSample G.GivesIds)
-        (F.form form.old) provider
-        (streams (R.remaining input.old) (R.remaining input.new) (W.contents output.old) (W.contents output.new))
-        result }
+    ensures { TracesUnder ⟦<ProviderOf<P, S, G> as Provides>⟧.calls (F.form form.old) provider (streams (R.remaining
+        input.old) (R.remaining input.new) (W.contents output.old) (W.contents output.new)) result }
 {
     match Session::new(alloc, provider) {
         Ok(session) => trace_session(alloc, session, form, input, output),
@@ -60,11 +56,8 @@ fn trace_session<P: KeepsBatches, S: ShouldSample, G: GivesIds, F: ReplyForm, R:
     input: &mut R,
     output: &mut W,
 ) -> RunEnd
-    ensures { Traces
-        (calls_of P.SpanProcessor P.Timed.own P.CountsLeftSpans.own P.KeepsBatches.own S.ShouldSample G.GivesIds)
-        (F.form form.old) session
-        (streams (R.remaining input.old) (R.remaining input.new) (W.contents output.old) (W.contents output.new))
-        result }
+    ensures { Traces ⟦<ProviderOf<P, S, G> as Provides>⟧.calls (F.form form.old) session (streams (R.remaining
+        input.old) (R.remaining input.new) (W.contents output.old) (W.contents output.new)) result }
 {
     let mut text = Vec::new(alloc);
     let fed = feed_pieces(alloc, &mut session, form, &mut text, input, output);
@@ -95,15 +88,11 @@ fn feed_pieces<P: KeepsBatches, S: ShouldSample, G: GivesIds, F: ReplyForm, R: R
     input: &mut R,
     output: &mut W,
 ) -> io::Result<RunEnd>
-    ensures ok { IfOk result (λ end. FedAs
-        (calls_of P.SpanProcessor P.Timed.own P.CountsLeftSpans.own P.KeepsBatches.own S.ShouldSample G.GivesIds)
-        (F.form form.old) session.old session.new
-        (streams (R.remaining input.old) (R.remaining input.new) (W.contents output.old) (W.contents output.new))
-        end) }
-    ensures err { OnErr result (CarriesOutSome
-        (calls_of P.SpanProcessor P.Timed.own P.CountsLeftSpans.own P.KeepsBatches.own S.ShouldSample G.GivesIds)
-        (F.form form.old) session.old (R.remaining input.old)
-        (AppendsBeginning (W.contents output.old) (W.contents output.new))) }
+    ensures ok { IfOk result (λ end. FedAs ⟦<ProviderOf<P, S, G> as Provides>⟧.calls (F.form form.old) session.old
+        session.new (streams (R.remaining input.old) (R.remaining input.new) (W.contents output.old) (W.contents
+        output.new)) end) }
+    ensures err { OnErr result (CarriesOutSome ⟦<ProviderOf<P, S, G> as Provides>⟧.calls (F.form form.old) session.old
+        (R.remaining input.old) (AppendsBeginning (W.contents output.old) (W.contents output.new))) }
     ensures form { F.form form.new ≡ F.form form.old }
 {
     let mut pieces = Pieces::new(alloc);
@@ -139,14 +128,11 @@ fn feed_piece<P: KeepsBatches, S: ShouldSample, G: GivesIds, F: ReplyForm, W: Wr
     text: &mut Vec<u8>,
     output: &mut W,
 ) -> io::Result<Result<(), FeedError>>
-    ensures ok { IfOk result (λ fed. FeedsPiece
-        (calls_of P.SpanProcessor P.Timed.own P.CountsLeftSpans.own P.KeepsBatches.own S.ShouldSample G.GivesIds)
-        (F.form form.old) session.old lines.now fed (Appends (W.contents output.old) (W.contents output.new))
-        session.new) }
+    ensures ok { IfOk result (λ fed. FeedsPiece ⟦<ProviderOf<P, S, G> as Provides>⟧.calls (F.form form.old)
+        session.old lines.now fed (Appends (W.contents output.old) (W.contents output.new)) session.new) }
     ensures err { OnErr result ((fed : Result (Unit {0}) FeedError) × FeedsPiece
-        (calls_of P.SpanProcessor P.Timed.own P.CountsLeftSpans.own P.KeepsBatches.own S.ShouldSample G.GivesIds)
-        (F.form form.old) session.old lines.now fed
-        (AppendsBeginning (W.contents output.old) (W.contents output.new)) session.new) }
+        ⟦<ProviderOf<P, S, G> as Provides>⟧.calls (F.form form.old) session.old lines.now fed (AppendsBeginning
+        (W.contents output.old) (W.contents output.new)) session.new) }
     ensures form { F.form form.new ≡ F.form form.old }
 {
     text.clear();

@@ -5,7 +5,6 @@ ghost use Rattle.opentelemetry.specs.PlainContexts.{root_cx};
 ghost use Rattle.otel_trace_lines.specs.Commands.{plain_command};
 ghost use Rattle.otel_pipeline.specs.Deliveries.{EachFollows};
 ghost use Rattle.otel_trace_session.specs.Actions.{action_of, plain_call};
-ghost use Rattle.otel_trace_session.specs.Calls.{calls_of};
 ghost use Rattle.otel_trace_session.specs.ProviderTurns.{CallGives, call_answer};
 ghost use Rattle.otel_trace_session.specs.Stops.{RefusesOne};
 ghost use Rattle.otel_trace_session.specs.Turn.{TurnsFromAny};
@@ -16,7 +15,7 @@ use crate::headers::remote_context;
 use crate::open_spans::OpenSpans;
 use opentelemetry::Context;
 use otel_export::error::OTelSdkResult;
-use otel_pipeline::trace::{KeepsBatches, ProviderOf, SdkTracer};
+use otel_pipeline::trace::{KeepsBatches, ProviderOf, Provides, SdkTracer};
 use otel_sampling::trace::{GivesIds, ShouldSample};
 use otel_trace_lines::{Answer, Command};
 use std::alloc::{AllocError, Global};
@@ -31,12 +30,10 @@ pub(crate) fn carry_out<P: KeepsBatches, S: ShouldSample, G: GivesIds>(
     command: Command,
 ) -> Result<Answer, AllocError>
     requires { root.now ≡ root_cx }
-    ensures ok { IfOk result (λ answer. TurnsFromAny (IsCarriedOut
-        (calls_of P.SpanProcessor P.Timed.own P.CountsLeftSpans.own P.KeepsBatches.own S.ShouldSample G.GivesIds)
+    ensures ok { IfOk result (λ answer. TurnsFromAny (IsCarriedOut ⟦<ProviderOf<P, S, G> as Provides>⟧.calls
         tracer.now (action_of (plain_command command))) provider.old spans.old answer provider.new spans.new) }
-    ensures err { OnErr result (RefusesOne
-        (calls_of P.SpanProcessor P.Timed.own P.CountsLeftSpans.own P.KeepsBatches.own S.ShouldSample G.GivesIds)
-        provider.old spans.old (action_of (plain_command command)) provider.new spans.new) }
+    ensures err { OnErr result (RefusesOne ⟦<ProviderOf<P, S, G> as Provides>⟧.calls provider.old spans.old (action_of
+        (plain_command command)) provider.new spans.new) }
 {
     match action_of(alloc, command) {
         Action::Start {
@@ -82,9 +79,8 @@ fn call_provider<P: KeepsBatches, S: ShouldSample, G: GivesIds>(
     provider: &mut ProviderOf<P, S, G>,
     call: ProviderCall,
 ) -> OTelSdkResult
-    ensures gives { CallGives
-        (calls_of P.SpanProcessor P.Timed.own P.CountsLeftSpans.own P.KeepsBatches.own S.ShouldSample G.GivesIds)
-        (plain_call call) provider.old result provider.new }
+    ensures gives { CallGives ⟦<ProviderOf<P, S, G> as Provides>⟧.calls (plain_call call) provider.old result
+        provider.new }
     ensures told { EachFollows P.SpanProcessor [] provider.old.processors provider.new.processors }
 {
     match call {

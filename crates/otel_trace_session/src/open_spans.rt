@@ -6,7 +6,6 @@ ghost use Rattle.opentelemetry.specs.Plain.{scope_named};
 ghost use Rattle.opentelemetry.specs.PlainContexts.{root_cx};
 ghost use Rattle.otel_pipeline.specs.Exceptions.{exception_event};
 ghost use Rattle.otel_pipeline.specs.SpanEdits.{add_event, new_link, plain_edit};
-ghost use Rattle.otel_trace_session.specs.Calls.{calls_of};
 ghost use Rattle.otel_trace_session.specs.Headers.{child_cx};
 ghost use Rattle.otel_trace_session.specs.OpenSpans.{
   AnswersInject,
@@ -38,7 +37,7 @@ use crate::span_maps::{abandon_all, abandon_one, drop_identity, has_recording, k
 use opentelemetry::trace::{Link, SpanBuilder, SpanContext};
 use opentelemetry::{Context, Moment};
 use otel_pipeline::trace::{
-    Exception, KeepsBatches, ProviderOf, SdkTracer, Span, SpanEdit, SpanProcessor,
+    Exception, KeepsBatches, ProviderOf, Provides, SdkTracer, Span, SpanEdit, SpanProcessor,
 };
 use otel_sampling::trace::{GivesIds, ShouldSample};
 use otel_trace_lines::{Answer, SpanIdentity};
@@ -105,13 +104,11 @@ impl OpenSpans {
         builder: SpanBuilder,
         now: Moment,
     ) -> Result<Answer, AllocError>
-        ensures ok { IfOk result (λ answer. TurnsFromAny (StartTurn
-            (calls_of P.SpanProcessor P.Timed.own P.CountsLeftSpans.own P.KeepsBatches.own S.ShouldSample G.GivesIds)
-            (start_in tracer.now cx.now (string_bytes span) builder now.0))
-            provider.old self.old answer provider.new self.new) }
-        ensures asks { OnErr result (MayStart
-            (calls_of P.SpanProcessor P.Timed.own P.CountsLeftSpans.own P.KeepsBatches.own S.ShouldSample G.GivesIds)
-            provider.old cx.now builder now.0 (named self.old (string_bytes span)) provider.new) }
+        ensures ok { IfOk result (λ answer. TurnsFromAny (StartTurn ⟦<ProviderOf<P, S, G> as Provides>⟧.calls
+            (start_in tracer.now cx.now (string_bytes span) builder now.0)) provider.old self.old answer provider.new
+            self.new) }
+        ensures asks { OnErr result (MayStart ⟦<ProviderOf<P, S, G> as Provides>⟧.calls provider.old cx.now builder
+            now.0 (named self.old (string_bytes span)) provider.new) }
         ensures err { OnErr result (SameSpans self.old self.new) }
     {
         if self.finished.contains_key(span.as_str()) {
@@ -130,14 +127,11 @@ impl OpenSpans {
         builder: SpanBuilder,
         now: Moment,
     ) -> Result<Answer, AllocError>
-        ensures ok { IfOk result (λ answer. TurnsFromAny (λ turn. ChildTurn (calls_of P.SpanProcessor P.Timed.own
-            P.CountsLeftSpans.own P.KeepsBatches.own S.ShouldSample G.GivesIds)
+        ensures ok { IfOk result (λ answer. TurnsFromAny (λ turn. ChildTurn ⟦<ProviderOf<P, S, G> as Provides>⟧.calls
             (start_in tracer.now root_cx (string_bytes span) builder now.0)
             (turn.before.histories parent.now) turn) provider.old self.old answer provider.new self.new) }
-        ensures asks { OnErr result (ChildMayStart
-            (calls_of P.SpanProcessor P.Timed.own P.CountsLeftSpans.own P.KeepsBatches.own S.ShouldSample G.GivesIds)
-            provider.old (named self.old parent.now) builder now.0
-            (named self.old (string_bytes span)) provider.new) }
+        ensures asks { OnErr result (ChildMayStart ⟦<ProviderOf<P, S, G> as Provides>⟧.calls provider.old (named
+            self.old parent.now) builder now.0 (named self.old (string_bytes span)) provider.new) }
         ensures err { OnErr result (SameSpans self.old self.new) }
     {
         let Some(cx) = self.context_of(parent)? else {
@@ -303,15 +297,12 @@ fn start_under<P: KeepsBatches, S: ShouldSample, G: GivesIds>(
     builder: SpanBuilder,
     now: Moment,
 ) -> Result<Answer, AllocError>
-    ensures ok { IfOk result (λ answer. (rest : NamedSpans) → named rest (string_bytes span) ≡ None
-        → TurnsFromAny (StartTurn
-        (calls_of P.SpanProcessor P.Timed.own P.CountsLeftSpans.own P.KeepsBatches.own S.ShouldSample G.GivesIds)
-        (start_in tracer.now cx.now (string_bytes span) builder now.0))
-        provider.old (by_name spans.old.entries ++ rest) answer provider.new (by_name spans.new.entries ++ rest)) }
-    ensures asks { OnErr result (MayStart
-        (calls_of P.SpanProcessor P.Timed.own P.CountsLeftSpans.own P.KeepsBatches.own S.ShouldSample G.GivesIds)
-        provider.old cx.now builder now.0 (named (by_name spans.old.entries) (string_bytes span))
-        provider.new) }
+    ensures ok { IfOk result (λ answer. (rest : NamedSpans) → named rest (string_bytes span) ≡ None → TurnsFromAny
+        (StartTurn ⟦<ProviderOf<P, S, G> as Provides>⟧.calls (start_in tracer.now cx.now (string_bytes span) builder
+        now.0)) provider.old (by_name spans.old.entries ++ rest) answer provider.new (by_name spans.new.entries ++
+        rest)) }
+    ensures asks { OnErr result (MayStart ⟦<ProviderOf<P, S, G> as Provides>⟧.calls provider.old cx.now builder now.0
+        (named (by_name spans.old.entries) (string_bytes span)) provider.new) }
     ensures err { OnErr result (SameSpans (by_name spans.old.entries) (by_name spans.new.entries)) }
 {
     match spans.entry(span)? {

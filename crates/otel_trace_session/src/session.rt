@@ -6,7 +6,6 @@ ghost use Rattle.opentelemetry.specs.PlainContexts.{root_cx};
 ghost use Rattle.otel_export.specs.KeptBatches.{OnlyAdds};
 ghost use Rattle.otel_trace_lines.specs.ReplyForm.{reply_lines};
 ghost use Rattle.otel_trace_lines.specs.declared.dialect.Dialect.TheVariants as dialects;
-ghost use Rattle.otel_trace_session.specs.Calls.{calls_of};
 ghost use Rattle.otel_trace_session.specs.Closing.{Closes, ClosesAs, LostNothing};
 ghost use Rattle.otel_trace_session.specs.Fed.{FeedStops, Feeds, Writes};
 ghost use Rattle.otel_trace_session.specs.OpenSpans.{Describe, HaveHistories, Histories};
@@ -22,7 +21,7 @@ use opentelemetry::Context;
 use otel_export::error::OTelSdkResult;
 use otel_export::trace::SpanData;
 use otel_pipeline::trace::first_processor::{kept_by_first, lost_by_first, take_of_first};
-use otel_pipeline::trace::{KeepsBatches, ProviderOf, SdkTracer};
+use otel_pipeline::trace::{KeepsBatches, ProviderOf, Provides, SdkTracer};
 use otel_sampling::trace::{GivesIds, ShouldSample};
 use otel_trace_lines::{Answer, Command, Reply, ReplyForm, ReplyLines, parse};
 use std::alloc::{AllocError, AllocFailed, Global};
@@ -155,9 +154,7 @@ impl<P: KeepsBatches, S: ShouldSample, G: GivesIds> Session<P, S, G> {
         alloc: Global,
         mut provider: ProviderOf<P, S, G>,
     ) -> Result<Session<P, S, G>, AllocFailed<ProviderOf<P, S, G>>>
-        ensures ok { IfOk result (λ session. BeginsUnder
-            (calls_of P.SpanProcessor P.Timed.own P.CountsLeftSpans.own P.KeepsBatches.own S.ShouldSample G.GivesIds)
-            provider session) }
+        ensures ok { IfOk result (λ session. BeginsUnder ⟦<ProviderOf<P, S, G> as Provides>⟧.calls provider session) }
         ensures err { IfErr result (λ failed. failed.value ≡ provider) }
     {
         let tracer = match tracer_of(alloc, &provider) {
@@ -190,11 +187,9 @@ impl<P: KeepsBatches, S: ShouldSample, G: GivesIds> Session<P, S, G> {
     /// in the reply.
     pub fn run(&mut self, commands: Vec<Command>, replies: &mut Vec<Reply>) -> Result<(), RunError>
         ensures ok { OnOk result (Gains replies.old.items replies.new.items (λ added. Runs
-            (calls_of P.SpanProcessor P.Timed.own P.CountsLeftSpans.own P.KeepsBatches.own S.ShouldSample G.GivesIds)
-            self.old commands.items added self.new)) }
+            ⟦<ProviderOf<P, S, G> as Provides>⟧.calls self.old commands.items added self.new)) }
         ensures err { IfErr result (λ error. Gains replies.old.items replies.new.items (λ added. RunStops
-            (calls_of P.SpanProcessor P.Timed.own P.CountsLeftSpans.own P.KeepsBatches.own S.ShouldSample G.GivesIds)
-            error self.old commands.items added self.new)) }
+            ⟦<ProviderOf<P, S, G> as Provides>⟧.calls error self.old commands.items added self.new)) }
     {
         let mut queue = VecDeque::from_vec(commands);
         while let Some(command) = queue.pop_front() {
@@ -213,8 +208,7 @@ impl<P: KeepsBatches, S: ShouldSample, G: GivesIds> Session<P, S, G> {
     /// for the next reply.
     pub fn feed(&mut self, text: &[u8], output: &mut Vec<u8>) -> Result<(), FeedError>
         ensures { Writes reply_lines output.old.items output.new.items (λ replies. Feeds
-            (calls_of P.SpanProcessor P.Timed.own P.CountsLeftSpans.own P.KeepsBatches.own S.ShouldSample G.GivesIds)
-            dialects.Plain self.old text.now result replies self.new) }
+            ⟦<ProviderOf<P, S, G> as Provides>⟧.calls dialects.Plain self.old text.now result replies self.new) }
     {
         let mut lines = ReplyLines::new(self.alloc);
         self.feed_in(&mut lines, text, output)
@@ -228,7 +222,7 @@ impl<P: KeepsBatches, S: ShouldSample, G: GivesIds> Session<P, S, G> {
         output: &mut Vec<u8>,
     ) -> Result<(), FeedError>
         ensures writes { Writes (F.form form.old) output.old.items output.new.items (λ replies. Feeds
-            (calls_of P.SpanProcessor P.Timed.own P.CountsLeftSpans.own P.KeepsBatches.own S.ShouldSample G.GivesIds)
+            ⟦<ProviderOf<P, S, G> as Provides>⟧.calls
             (F.form form.old).dialect self.old text.now result replies self.new) }
         ensures form { F.form form.new ≡ F.form form.old }
     {
@@ -244,9 +238,8 @@ impl<P: KeepsBatches, S: ShouldSample, G: GivesIds> Session<P, S, G> {
     /// spans that no reply has shown are appended. The answer is that of the shutdown, or `OutOfMemory` where that is
     /// Ok and the lines found no memory or the first processor's exporter has lost a batch since the session began.
     pub fn close(self, output: &mut Vec<u8>) -> OTelSdkResult
-        ensures { Closes
-            (calls_of P.SpanProcessor P.Timed.own P.CountsLeftSpans.own P.KeepsBatches.own S.ShouldSample G.GivesIds)
-            reply_lines self output.old.items result output.new.items }
+        ensures { Closes ⟦<ProviderOf<P, S, G> as Provides>⟧.calls reply_lines self output.old.items result
+            output.new.items }
     {
         let mut lines = ReplyLines::new(self.alloc);
         self.close_in(&mut lines, output).answer
@@ -254,9 +247,8 @@ impl<P: KeepsBatches, S: ShouldSample, G: GivesIds> Session<P, S, G> {
 
     /// The same, with the batches that no reply has shown in a form, and with what the processors leave behind.
     pub fn close_in<F: ReplyForm>(self, form: &mut F, output: &mut Vec<u8>) -> ClosedSession
-        ensures closes { ClosesAs
-            (calls_of P.SpanProcessor P.Timed.own P.CountsLeftSpans.own P.KeepsBatches.own S.ShouldSample G.GivesIds)
-            (F.form form.old) self output.old.items result output.new.items }
+        ensures closes { ClosesAs ⟦<ProviderOf<P, S, G> as Provides>⟧.calls (F.form form.old) self output.old.items
+            result output.new.items }
         ensures form { F.form form.new ≡ F.form form.old }
     {
         let Session {
@@ -289,12 +281,9 @@ impl<P: KeepsBatches, S: ShouldSample, G: GivesIds> Session<P, S, G> {
         output: &mut Vec<u8>,
     ) -> Result<(), FeedError>
         ensures ok { OnOk result (Writes (F.form form.old) output.old.items output.new.items (λ replies. Runs
-            (calls_of P.SpanProcessor P.Timed.own P.CountsLeftSpans.own P.KeepsBatches.own S.ShouldSample G.GivesIds)
-            self.old commands.items replies self.new)) }
-        ensures err { IfErr result (λ error. Writes (F.form form.old) output.old.items output.new.items
-            (λ replies. FeedStops
-            (calls_of P.SpanProcessor P.Timed.own P.CountsLeftSpans.own P.KeepsBatches.own S.ShouldSample G.GivesIds)
-            error self.old commands.items replies self.new)) }
+            ⟦<ProviderOf<P, S, G> as Provides>⟧.calls self.old commands.items replies self.new)) }
+        ensures err { IfErr result (λ error. Writes (F.form form.old) output.old.items output.new.items (λ replies.
+            FeedStops ⟦<ProviderOf<P, S, G> as Provides>⟧.calls error self.old commands.items replies self.new)) }
         ensures form { F.form form.new ≡ F.form form.old }
     {
         let mut queue = VecDeque::from_vec(commands);
@@ -330,12 +319,10 @@ impl<P: KeepsBatches, S: ShouldSample, G: GivesIds> Session<P, S, G> {
     /// Carries one command out. Where the first processor's exporter lost the batch of a span that it ended, it was
     /// carried out, and that is the answer. Where there was no memory, it was refused.
     fn answer(&mut self, command: Command) -> Result<Answer, RunError>
-        ensures ok { IfOk result (λ answer. Answers
-            (calls_of P.SpanProcessor P.Timed.own P.CountsLeftSpans.own P.KeepsBatches.own S.ShouldSample G.GivesIds)
-            self.old command answer self.new) }
-        ensures err { IfErr result (λ error. AnswerStops
-            (calls_of P.SpanProcessor P.Timed.own P.CountsLeftSpans.own P.KeepsBatches.own S.ShouldSample G.GivesIds)
-            error self.old command self.new) }
+        ensures ok { IfOk result (λ answer. Answers ⟦<ProviderOf<P, S, G> as Provides>⟧.calls self.old command answer
+            self.new) }
+        ensures err { IfErr result (λ error. AnswerStops ⟦<ProviderOf<P, S, G> as Provides>⟧.calls error self.old
+            command self.new) }
         ensures rest { self.new ≡ record self.old { provider = self.new.provider; spans = self.new.spans } }
         ensures keeps { OnlyAdds (session_stored P.KeepsBatches.own self.old)
             (session_stored P.KeepsBatches.own self.new) }
@@ -353,9 +340,7 @@ impl<P: KeepsBatches, S: ShouldSample, G: GivesIds> Session<P, S, G> {
 
     /// Carries one command out; a lost batch is no error. Where there was no memory, it was refused.
     fn obey(&mut self, command: Command) -> Result<Answer, AllocError>
-        ensures obeys { Obeys
-            (calls_of P.SpanProcessor P.Timed.own P.CountsLeftSpans.own P.KeepsBatches.own S.ShouldSample G.GivesIds)
-            self.old command result self.new }
+        ensures obeys { Obeys ⟦<ProviderOf<P, S, G> as Provides>⟧.calls self.old command result self.new }
         ensures rest { self.new ≡ record self.old { provider = self.new.provider; spans = self.new.spans } }
         ensures histories { HaveHistories self.old.spans }
     {
@@ -381,9 +366,7 @@ impl<P: KeepsBatches, S: ShouldSample, G: GivesIds> Session<P, S, G> {
     /// Takes the batches that the first processor's exporter keeps, if it may keep one: a reply shows them.
     fn take_shown(&mut self) -> Vec<Vec<SpanData>>
         ensures taken { map (λ batch. batch.items) result.items ≡ session_batches P.KeepsBatches.own self.old }
-        ensures takes { TakesKept
-            (calls_of P.SpanProcessor P.Timed.own P.CountsLeftSpans.own P.KeepsBatches.own S.ShouldSample G.GivesIds)
-            self.old.provider self.new.provider }
+        ensures takes { TakesKept ⟦<ProviderOf<P, S, G> as Provides>⟧.calls self.old.provider self.new.provider }
         ensures rest { self.new ≡ record self.old { provider = self.new.provider } }
     {
         if !self.may_keep {
