@@ -1,13 +1,12 @@
 //! Reads a span context from the B3 headers. Ids are in lower-case digits, as the standard writes them.
 
-ghost use Rattle.std.specs.Prelude.{◌≡◌, ◌≢◌, ◌↔◌, ℕ, Some, [], List, All, true, IsTrue, MatchOption};
+ghost use Rattle.std.specs.Prelude.{◌≡◌, ◌≢◌, ◌↔◌, Some, All, true, IsTrue};
 ghost use Rattle.std.specs.Option.{option_copied};
-ghost use Rattle.opentelemetry.specs.Plain.{PlainSpanContext};
 ghost use Rattle.otel_propagators.specs.B3.{flags_of, hyphen, joined, state_mark};
 ghost use Rattle.otel_propagators.specs.B3.{IsLone, IsMany, IsParent, IsSingle, IsSpanId, IsTraceId, SaysDecision};
 ghost use Rattle.otel_propagators.specs.B3.{SaysMany, SaysState};
 ghost use Rattle.otel_propagators.specs.B3Headers.{SaysSpan};
-ghost use Rattle.otel_propagators.specs.declared.b3.sampling_state.SamplingState.{SamplingState};
+ghost use Rattle.otel_propagators.specs.Reading.{IsFound, remote_span};
 
 use crate::b3::field::Field;
 use crate::b3::sampling_state::SamplingState;

@@ -1,8 +1,7 @@
 //! Reads a span context from the header `uber-trace-id`. Digits are in lower case, as Jaeger's clients write them.
 
-ghost use Rattle.std.specs.Prelude.{◌≡◌, ◌<◌, ◌≤◌, ◌^◌, ◌++◌, [], ℕ, List, All, IfSome, MatchOption, true, false};
+ghost use Rattle.std.specs.Prelude.{◌≡◌, ◌<◌, ◌≤◌, ◌^◌, ◌++◌, ℕ, List, All, IfSome, MatchOption, true, false};
 ghost use Rattle.opentelemetry.specs.Hex.{IsHexDigit};
-ghost use Rattle.opentelemetry.specs.Plain.{PlainSpanContext};
 ghost use Rattle.otel_propagators.specs.Reading.{IsFound, remote_span};
 ghost use Rattle.otel_propagators.specs.UberTraceId.{colon_text, flags_read};
 ghost use Rattle.otel_propagators.specs.UberTraceId.{IsNumber, IsUberTraceId, SaysContext, SaysField};
