@@ -1,9 +1,11 @@
 # SPDX-License-Identifier: Apache-2.0
 """What each package is tried on by itself: it is built, and its own tests, examples and random calls are run."""
 
+import glob
 import os
 import re
 import shutil
+import subprocess
 import sys
 from concurrent.futures import ThreadPoolExecutor
 
@@ -17,6 +19,10 @@ SECONDS_TO_TEST = 900
 # Of all random calls a tenth is made by the driver with the address sanitizer, which is slower.
 PLAIN_SEEDS = range(1, 10)
 SANITIZED_SEEDS = range(10, 14)
+# The versions of Python that the package promises, and those that are known.
+PYTHON_MINORS = range(9, 15)
+PYENV = os.environ.get("PYENV_ROOT") or os.path.expanduser("~/.pyenv")
+DIFFERING_TESTS = ("tests.test_signals", "tests.test_spans", "tests.test_pipeline")
 
 
 def parts(calls):
@@ -30,6 +36,7 @@ def parts(calls):
         "rust_build": build_rust,
         "rust_tests": lambda: run_all(["cargo", "test", "--offline", "--quiet"], cwd=RUST),
         "python_tests": test_python,
+        "python_versions": test_other_pythons,
     }
 
 
@@ -79,8 +86,34 @@ def build_rust():
 
 
 def test_python():
-    said = run([sys.executable, "-m", "unittest"], SECONDS_TO_TEST, cwd=PYTHON)
+    return f"{tests_by(sys.executable)} tests"
+
+
+def tests_by(python, *words):
+    """Runs tests of the package for Python by a version of it, and answers how many there are."""
+    said = run([python, "-m", "unittest", *words], SECONDS_TO_TEST, cwd=PYTHON)
     found = re.search(r"^Ran ([1-9]\d*) test", said, re.M)
     if not found:
         raise Fault("no test was run")
-    return f"{found[1]} tests"
+    return found[1]
+
+
+def test_other_pythons():
+    """Runs the tests of what differs between versions by each other one that is here, on the PATH or by pyenv."""
+    found = {}
+    for minor in PYTHON_MINORS:
+        places = [shutil.which(f"python3.{minor}"), *sorted(glob.glob(f"{PYENV}/versions/3.{minor}.*/bin/python"))]
+        works = [it for it in places if it and minor != sys.version_info.minor and is_python(it, minor)]
+        if works:
+            found[minor] = works[0]
+    if not found:
+        raise LeftOut("no other version of Python is installed")
+    for python in found.values():
+        tests_by(python, *DIFFERING_TESTS)
+    return ", ".join(f"3.{minor}" for minor in found)
+
+
+def is_python(path, minor):
+    """Whether a command is this version of Python: one of pyenv may be there and lead nowhere."""
+    words = [path, "-c", "import sys; print(sys.version_info.minor)"]
+    return subprocess.run(words, capture_output=True, text=True).stdout.strip() == str(minor)

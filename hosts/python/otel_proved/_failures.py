@@ -3,10 +3,10 @@
 
 from __future__ import annotations
 
-import threading
 from typing import Optional
 
 from . import _fork
+from ._counting import Count
 from .errors import OtelError
 
 
@@ -14,22 +14,21 @@ class Failures(_fork.Renewed):
     """How many calls failed, and the last of their errors."""
 
     def __init__(self) -> None:
-        self._renew()
+        self.after_fork_in_child()
         _fork.register(self)
 
-    def _renew(self) -> None:
-        # The handler of a signal may fail in the middle of a count by its own thread.
-        self._lock = threading.RLock()
-        self.count = 0
-        self.last: Optional[OtelError] = None
+    @property
+    def count(self) -> int:
+        """How many calls failed."""
+        return self._count.number
 
     def note(self, error: OtelError) -> None:
         """Counts a failure."""
-        with self._lock:
-            self.count += 1
-            # The traceback would keep what its frames hold.
-            self.last = error.with_traceback(None)
+        self._count.add()
+        # The traceback would keep what its frames hold.
+        self.last = error.with_traceback(None)
 
     def after_fork_in_child(self) -> None:
         """The child counts its own."""
-        self._renew()
+        self._count = Count()
+        self.last: Optional[OtelError] = None

@@ -12,21 +12,25 @@ import threading
 import weakref
 from typing import Any, List
 
-_things: "weakref.WeakSet[Any]" = weakref.WeakSet()
+# Threads and handlers of signals add to it and remove from it, each in one step of C code.
+_things: "List[weakref.ref[Any]]" = []
 _held: List[Any] = []
-# Held from before a fork until after it, on either side.
+# Held from before a fork until after it.
 _forking = threading.RLock()
 
 
 def register(thing: Any) -> None:
     """From now on a fork calls the thing's before_fork, after_fork_in_parent and after_fork_in_child."""
-    with _forking:
-        _things.add(thing)
+    _things.append(weakref.ref(thing, _things.remove))
+
+
+def _living() -> List[Any]:
+    return [thing for thing in (it() for it in list(_things)) if thing is not None]
 
 
 def _before() -> None:
     _forking.acquire()
-    _held[:] = _things
+    _held[:] = _living()
     for thing in _held:
         thing.before_fork()
 
@@ -39,10 +43,12 @@ def _after_in_parent() -> None:
 
 
 def _after_in_child() -> None:
-    for thing in _held:
+    global _forking
+    # A server that is no Python program may fork without a word before it.
+    for thing in _held or _living():
         thing.after_fork_in_child()
     _held.clear()
-    _forking.release()
+    _forking = threading.RLock()
 
 
 class Renewed:

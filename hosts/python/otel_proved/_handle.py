@@ -1,18 +1,22 @@
 # SPDX-License-Identifier: Apache-2.0
-"""A handle of the library, used by one call at a time: ctypes lets other threads run during a call."""
+"""A handle of the library, used by one call at a time: during long calls ctypes lets other threads run."""
 
 from __future__ import annotations
 
 import collections
+import contextlib
 import ctypes
-import functools
-import threading
-from typing import Any, Callable, Deque, Dict, List, NamedTuple, Sequence, Tuple, TypeVar, Union, cast
+import weakref
+from functools import partial
+from typing import Any, Deque, Dict, List, NamedTuple, Sequence, Set, Union
 
 from . import _declarations, _fork, _native
+from ._counting import Count
+from ._failures import Failures
 from ._native import Counts
+from ._turns import Call, Turns
 from ._values import Encoded, text
-from .errors import Busy, NoSuchSpan, OtelError, OtherProcess
+from .errors import OtelError, OtherProcess
 
 NO_SPAN = 0
 # What most answers fit into, in bytes.
@@ -60,218 +64,261 @@ class Identity(NamedTuple):
 NOBODY = Identity(0, 0, 0, False)
 
 
-class Started(NamedTuple):
-    """A span that has started."""
+class Started:
+    """A span that the library has started, or is about to. One that nobody can name any more is forgotten."""
+
+    def __init__(self, handle: "Handle") -> None:
+        self.handle = handle
+        self.is_over = False
+        # Of the library's answers. A key of 0 is none.
+        self.key_cell = ctypes.c_uint64()
+        self.found = _declarations.Identity()
+        self._watch = handle.watch(self)
+
+    @property
+    def key(self) -> int:
+        """The span's key."""
+        return self.key_cell.value
+
+    @property
+    def identity(self) -> Identity:
+        """Who the span is."""
+        found = self.found
+        trace_id = found.trace_id_high << 64 | found.trace_id_low
+        return Identity(trace_id, found.span_id, found.trace_flags, found.is_recording != 0)
+
+    def finish(self, how: str, *moment: int) -> None:
+        """Has the span end by otel_end, at a moment, or by otel_abandon. What an exception stops the next call does."""
+        finish = Finish(self.key, how, moment)
+        self.handle.queue(finish)
+        self.is_over = True
+        self.handle.unwatch(self._watch)
+        self.handle.carry_out()
+
+
+class Watch(weakref.ref):  # type: ignore[type-arg]
+    """Says that a span can be named no more, by C code alone: the handler of a signal may interrupt a `__del__`."""
+
+    key_cell: ctypes.c_uint64
+
+
+_END, _ABANDON, _FORGET = "otel_end", "otel_abandon", "forget"
+
+
+class Finish(NamedTuple):
+    """An end of a span that is to be carried out: by otel_end, or by otel_abandon, as also where nobody ended it."""
 
     key: int
-    identity: Identity
-
-
-_Method = TypeVar("_Method", bound=Callable[..., Any])
-
-
-def _in_turn(method: _Method) -> _Method:
-    """Runs a method of a handle while no other one runs."""
-
-    @functools.wraps(method)
-    def run(self: "Handle", *arguments: Any) -> Any:
-        me = threading.get_ident()
-        if self._owner == me:
-            raise Busy("a call came in the middle of another one by the same thread")
-        with self._lock:
-            if self.is_foreign:
-                raise OtherProcess("the span was started before a fork, in the parent process")
-            self._owner = me
-            try:
-                self._abandon_forgotten()
-                return method(self, *arguments)
-            finally:
-                self._owner = 0
-
-    return cast(_Method, run)
+    how: str
+    moment: Sequence[int] = ()
 
 
 class Handle:
     """An open handle. Each method answers what the library does, or raises an OtelError."""
 
-    def __init__(self, settings: bytes, seed: int) -> None:
+    def __init__(self, settings: bytes, seed: int, failures: Failures) -> None:
         self._functions = _native.functions()
         self._memory = _native.HandleMemory()
         self._address = ctypes.byref(self._memory)
-        self._lock = threading.Lock()
-        self._owner = 0
-        self._is_held_over_fork = False
+        self._failures = failures
+        self._turns = Turns()
         self._tracers: Dict[Scope, int] = {NO_SCOPE: 0}
-        self._forgotten: Deque[int] = collections.deque()
-        self.forgotten_spans = 0
-        self.lost_spans = 0
+        self._queue: Deque[Finish] = collections.deque()
+        self._watches: Set[Watch] = set()
+        self._gone: Deque[Watch] = collections.deque()
+        self._forgotten = Count()
+        self._lost = Count()
         self.is_shut_down = False
         self.is_closed = False
         self.is_foreign = False
-        self._call("otel_open", *text(settings), seed)
+        self._do("otel_open", *text(settings), seed)
         _fork.register(self)
 
-    def _call(self, name: str, *arguments: Any) -> None:
-        status = self._functions[name](self._address, *arguments)
-        if status != _native.OK:
-            raise _native.error_of(name, status)
+    @property
+    def forgotten_spans(self) -> int:
+        """How many spans nobody ended."""
+        return self._forgotten.number
+
+    @property
+    def lost_spans(self) -> int:
+        """How many spans ended and could not be handed on."""
+        return self._lost.number
+
+    def _call(self, name: str, *arguments: Any) -> Call:
+        """A call that is still to be made."""
+        return partial(self._functions[name], self._address, *arguments)
+
+    def _take(self, calls: Sequence[Call], before: Sequence[Call] = (), after: Sequence[Call] = ()) -> int:
+        """Has a turn, and carries out what waits for one: before it, and what came to wait in the middle of it."""
+        if self.is_foreign:
+            raise OtherProcess("the span was started before a fork, in the parent process")
+        self.carry_out()
+        try:
+            return self._turns.take(calls, before, after)
+        finally:
+            self.carry_out()
+
+    def _do(self, name: str, *arguments: Any) -> None:
+        _native.check(name, self._take([self._call(name, *arguments)]))
+
+    def _do_with(self, attributes: Sequence[Encoded], name: str, *calls: Call) -> None:
+        """Gathers attributes for the first of some calls. What was gathered is forgotten before that and after it."""
+        forget = [self._call("otel_set_attributes", NO_SPAN)]
+        gather = [self._call(f"otel_with_{form}", *arguments) for form, arguments in attributes]
+        _native.check(name, self._take([*gather, *calls], forget, forget if gather else ()))
 
     def _read(self, name: str, *arguments: Any) -> bytes:
-        length = ctypes.c_size_t()
-        room = ctypes.create_string_buffer(_ROOM)
-        function = self._functions[name]
-        status = function(self._address, *arguments, room, _ROOM, ctypes.byref(length))
-        if status == _native.BUFFER_TOO_SMALL:
-            wanted = length.value
+        length, wanted = ctypes.c_size_t(), _ROOM
+        while True:
             room = ctypes.create_string_buffer(wanted)
-            status = function(self._address, *arguments, room, wanted, ctypes.byref(length))
-        if status != _native.OK:
-            raise _native.error_of(name, status)
-        return ctypes.string_at(room, length.value)
-
-    def _gather(self, attributes: Sequence[Encoded]) -> None:
-        try:
-            for form, arguments in attributes:
-                self._call(f"otel_with_{form}", *arguments)
-        except OtelError:
-            # The attributes so far are taken by a call that changes no span.
-            self._functions["otel_set_attributes"](self._address, NO_SPAN)
-            raise
+            status = self._take([self._call(name, *arguments, room, wanted, ctypes.byref(length))])
+            if status != _native.BUFFER_TOO_SMALL:
+                _native.check(name, status)
+                return ctypes.string_at(room, length.value)
+            wanted = length.value
 
     def _tracer(self, scope: Scope) -> int:
         tracer = self._tracers.get(scope)
         if tracer is None:
             number = ctypes.c_uint64()
-            self._call("otel_tracer", *text(scope.name), *text(scope.version), *text(scope.schema_url), number)
+            self._do("otel_tracer", *text(scope.name), *text(scope.version), *text(scope.schema_url), number)
             tracer = self._tracers[scope] = number.value
         return tracer
 
-    @_in_turn
     def start(self, beginning: Beginning, parent: Union[int, Headers]) -> Started:
         """Starts a child of an open span of this handle, of the span that headers name, or of NO_SPAN."""
         tracer = self._tracer(beginning.scope)
-        self._gather(beginning.attributes)
-        key = ctypes.c_uint64()
-        rest = (beginning.kind, *text(beginning.name), beginning.moment, key)
+        started = Started(self)
+        rest = (beginning.kind, *text(beginning.name), beginning.moment, started.key_cell)
         if isinstance(parent, int):
-            self._call("otel_start", tracer, parent, *rest)
+            start = self._call("otel_start", tracer, parent, *rest)
         else:
             headers = (*text(parent.traceparent), *text(parent.tracestate), *text(parent.baggage))
-            self._call("otel_start_remote", tracer, *headers, *rest)
-        return Started(key.value, self._identity(key.value))
-
-    def _identity(self, key: int) -> Identity:
-        found = _declarations.Identity()
+            start = self._call("otel_start_remote", tracer, *headers, *rest)
+        identify = self._call("otel_identity", started.key_cell, started.found)
         try:
-            self._call("otel_identity", key, found)
+            self._do_with(beginning.attributes, "otel_start", start, identify)
         except OtelError:
-            self._functions["otel_abandon"](self._address, key)
+            if started.key:
+                started.finish(_ABANDON)
             raise
-        trace_id = found.trace_id_high << 64 | found.trace_id_low
-        return Identity(trace_id, found.span_id, found.trace_flags, found.is_recording != 0)
+        return started
 
-    @_in_turn
     def edit(self, name: str, key: int, *arguments: Any) -> None:
         """Edits a span by a function that takes no attributes."""
-        self._call(name, key, *arguments)
+        self._do(name, key, *arguments)
 
-    @_in_turn
     def edit_with(self, attributes: Sequence[Encoded], name: str, key: int, *arguments: Any) -> None:
         """Edits a span by a function that takes attributes."""
-        self._gather(attributes)
-        self._call(name, key, *arguments)
+        self._do_with(attributes, name, self._call(name, key, *arguments))
 
-    @_in_turn
     def inject(self, key: int) -> bytes:
         """The headers of a span, as lines."""
         return self._read("otel_inject", key)
 
-    @_in_turn
-    def end(self, key: int, moment: int) -> None:
-        """Ends a span. One that cannot be ended is abandoned, and counted as lost."""
-        try:
-            self._call("otel_end", key, moment)
-        except NoSuchSpan:
-            raise
-        except OtelError:
-            self.lost_spans += 1
-            self._functions["otel_abandon"](self._address, key)
-            raise
+    def watch(self, started: Started) -> Watch:
+        """Has a span abandoned when nobody can name it any more."""
+        watch = Watch(started, self._gone.append)
+        watch.key_cell = started.key_cell
+        self._watches.add(watch)
+        return watch
 
-    @_in_turn
-    def abandon(self, key: int) -> None:
-        """Ends a span of which nothing is handed on."""
-        self._call("otel_abandon", key)
+    def unwatch(self, watch: Watch) -> None:
+        """Has it no more."""
+        self._watches.discard(watch)
 
-    def forget(self, key: int) -> None:
-        """Has an open span abandoned that nobody can name any more. It waits for no other call."""
-        self._forgotten.append(key)
+    def queue(self, finish: Finish) -> None:
+        """Has a span's end carried out before the next call. It waits for no other call."""
+        self._queue.append(finish)
 
-    def _abandon_forgotten(self) -> None:
-        while self._forgotten:
-            self._functions["otel_abandon"](self._address, self._forgotten.popleft())
-            self.forgotten_spans += 1
+    def carry_out(self) -> None:
+        """Carries out the ends that wait. In the middle of a turn they are left to whoever has that.
 
-    @_in_turn
+        Each stays in the queue until it is done, so that an exception loses none. A second time nothing comes of it.
+        """
+        while (self._queue or self._gone) and not self._turns.is_mine:
+            # Another thread may have taken the last one meanwhile.
+            with contextlib.suppress(IndexError, ValueError):
+                if self._queue:
+                    finish = self._queue[0]
+                    self._settle(finish)
+                    self._queue.remove(finish)
+                else:
+                    watch = self._gone[0]
+                    self._settle(Finish(watch.key_cell.value, _FORGET))
+                    self._watches.discard(watch)
+                    self._gone.remove(watch)
+
+    def _settle(self, finish: Finish) -> None:
+        if self.is_foreign:
+            return self._note(finish, OtherProcess("the span was started before a fork, in the parent process"))
+        abandon = self._call(_ABANDON, finish.key)
+        end = self._call(_END, finish.key, *finish.moment) if finish.how == _END else abandon
+        status = self._turns.take([end])
+        if status == _native.OK and finish.how == _FORGET:
+            self._forgotten.add()
+        if status in (_native.OK, _native.NO_SUCH_SPAN):
+            return
+        self._note(finish, _native.error_of(finish.how, status))
+        if finish.how == _END and self._turns.take([abandon]) != _native.NO_SUCH_SPAN:
+            self._lost.add()
+
+    def _note(self, finish: Finish, error: OtelError) -> None:
+        if finish.how != _FORGET:
+            self._failures.note(error)
+
     def ignored_settings(self) -> List[str]:
         """The names of the settings that were ignored."""
         return self._read("otel_ignored_settings").decode("utf-8", "replace").split("\n")[:-1]
 
-    @_in_turn
     def flush(self) -> None:
         """Exports what waits."""
-        self._call("otel_flush")
+        self._do("otel_flush")
 
-    @_in_turn
     def run(self, moment: int) -> None:
         """Exports what is due."""
-        self._call("otel_run", moment)
+        self._do("otel_run", moment)
 
-    @_in_turn
     def drain(self) -> bytes:
         """The lines of what was exported, which are then forgotten."""
         return self._read("otel_drain")
 
-    @_in_turn
     def count(self) -> Counts:
         """How many spans are where."""
         found = _declarations.Numbers()
-        self._call("otel_count", found)
+        self._do("otel_count", found)
         return Counts(*(getattr(found, name) for name in Counts._fields))
 
-    @_in_turn
     def shutdown(self) -> None:
         """Exports what waits, and nothing afterwards."""
         self.is_shut_down = True
-        self._call("otel_shutdown")
+        self._do("otel_shutdown")
 
-    @_in_turn
     def close(self) -> bytes:
         """Shuts down and lets go of all but the lines that nobody drained, which it answers."""
         self.is_shut_down = True
         # One that was shut down before answers that it failed; what an export lost is counted.
-        self._functions["otel_shutdown"](self._address)
+        self._take([self._call("otel_shutdown")])
         lines = self._read("otel_drain")
-        self._call("otel_close")
+        self._do("otel_close")
         self.is_closed = True
         return lines
 
     def before_fork(self) -> None:
         """Waits for the call that runs, so that the child finds none half done."""
-        if self._owner != threading.get_ident():
-            self._lock.acquire()
-            self._is_held_over_fork = True
+        self._turns.hold()
 
     def after_fork_in_parent(self) -> None:
         """Lets the next call run."""
-        if self._is_held_over_fork:
-            self._is_held_over_fork = False
-            self._lock.release()
+        self._turns.let_go()
+        self.carry_out()
 
     def after_fork_in_child(self) -> None:
         """Never uses the parent's handle again, which stays in memory as it is."""
-        self._lock = threading.Lock()
-        self._owner = 0
+        self._turns = Turns()
+        self._queue.clear()
+        self._watches.clear()
+        self._gone.clear()
         self.is_foreign = not self.is_closed
 
     def __del__(self) -> None:

@@ -42,18 +42,23 @@ class Counts(NamedTuple):
 
 
 OK = 0
+NO_SUCH_SPAN = 4
 BUFFER_TOO_SMALL = 8
 _ERRORS: Dict[int, Type[errors.OtelError]] = {
     1: errors.Closed,
     2: errors.AlreadyOpen,
     3: errors.OutOfMemory,
-    4: errors.NoSuchSpan,
+    NO_SUCH_SPAN: errors.NoSuchSpan,
     5: errors.NoSuchTracer,
     6: errors.NotUtf8,
     7: errors.BadArgument,
     BUFFER_TOO_SMALL: errors.BufferTooSmall,
     9: errors.Failed,
 }
+
+# The calls that let other threads run meanwhile. Where a short one did too, a thread that traces would wait for its
+# next step as long as each of the others works.
+_LONG = {"otel_open", "otel_flush", "otel_run", "otel_drain", "otel_shutdown", "otel_close"}
 
 Functions = Dict[str, Callable[..., int]]
 
@@ -64,6 +69,12 @@ def error_of(name: str, status: int) -> errors.OtelError:
     if kind is None:
         return errors.UnknownStatus(f"{name} answered the status {status}")
     return kind(f"{name}: {kind.__doc__}")
+
+
+def check(name: str, status: int) -> None:
+    """Raises the exception for a status, of the function of this name, where it is not OK."""
+    if status != OK:
+        raise error_of(name, status)
 
 
 def places() -> List[str]:
@@ -88,8 +99,11 @@ def functions() -> Functions:
     """The library's functions by name. It is loaded when it is asked for first."""
     path = _path()
     try:
-        library = ctypes.CDLL(path)
-        return {name: _declared(library, name, arguments) for name, arguments in FUNCTIONS.items()}
+        others_run, others_wait = ctypes.CDLL(path), ctypes.PyDLL(path)
+        return {
+            name: _declared(others_run if name in _LONG else others_wait, name, arguments)
+            for name, arguments in FUNCTIONS.items()
+        }
     except (OSError, AttributeError) as error:
         raise errors.LibraryNotFound(f"{path} cannot be used: {error}") from error
 

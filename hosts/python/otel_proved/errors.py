@@ -53,7 +53,7 @@ class LibraryNotFound(OtelError, ImportError):
 
 
 class Busy(OtelError):
-    """A call came in the middle of another one by the same thread, as from the handler of a signal."""
+    """A call came in the middle of another one by the same thread, from what the garbage collector runs."""
 
 
 class OtherProcess(OtelError):

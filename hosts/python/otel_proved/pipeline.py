@@ -6,8 +6,7 @@ from __future__ import annotations
 import abc
 import contextlib
 import secrets
-import threading
-from typing import List, Mapping, Optional, Protocol
+from typing import Dict, List, Mapping, Optional, Protocol
 
 from . import _fork
 from ._failures import Failures
@@ -97,8 +96,8 @@ class Pipeline(Starter, _fork.Renewed):
         self._settings, refused = settings_of(settings)
         self._failures = Failures()
         self._followers: List[Follower] = []
-        self._opening = threading.Lock()
-        self._handle = Handle(self._settings, _seed_of(seed))
+        self._opened: Dict[str, Handle] = {}
+        self._handle = Handle(self._settings, _seed_of(seed), self._failures)
         #: The names of the settings that were ignored: unknown ones, and those whose value does not read.
         self.ignored_settings = [*refused, *self._handle.ignored_settings()]
         _fork.register(self)
@@ -111,12 +110,11 @@ class Pipeline(Starter, _fork.Renewed):
     def _begin(self, beginning: Beginning, parent: Parent) -> Span:
         parent = started_parent(parent)
         try:
-            handle = self._live()
-            started = self._started(handle, beginning, parent)
+            started = self._started(self._live(), beginning, parent)
         except OtelError as error:
             self._failures.note(error)
             return UnstartedSpan(parent)
-        return Span(handle, started, origin_of(parent), self._failures)
+        return Span(started, origin_of(parent), self._failures)
 
     def _started(self, handle: Handle, beginning: Beginning, parent: Parent) -> Started:
         if parent is None or parent == ROOT:
@@ -135,13 +133,11 @@ class Pipeline(Starter, _fork.Renewed):
         return self._handle
 
     def _open_anew(self) -> None:
-        with self._opening:
-            if not self._handle.is_foreign:
-                return
-            handle = Handle(self._settings, _seed_of(None))
-            if self._handle.is_shut_down:
-                handle.shutdown()
-            self._handle = handle
+        handle = Handle(self._settings, _seed_of(None), self._failures)
+        if self._handle.is_shut_down:
+            handle.shutdown()
+        # Another thread, or the handler of a signal, may have opened one meanwhile.
+        self._handle = self._opened.setdefault("anew", handle)
         for follower in self._followers:
             follower.resume()
 
@@ -208,8 +204,8 @@ class Pipeline(Starter, _fork.Renewed):
         self.close()
 
     def after_fork_in_child(self) -> None:
-        """The parent's other threads are not there to let go of the lock."""
-        self._opening = threading.Lock()
+        """What a parent opened anew is not the child's."""
+        self._opened = {}
 
 
 def _seed_of(seed: Optional[int]) -> int:

@@ -62,13 +62,18 @@ class SpanContext(NamedTuple):
 class Span:
     """A span that has started. Start one by `Pipeline.span`, `Pipeline.start_span`, or those of a `Tracer`."""
 
-    def __init__(self, handle: Handle, started: Started, origin: Remote, failures: Failures) -> None:
-        self._handle = handle
-        self._key, self._identity = started
+    def __init__(self, started: Started, origin: Remote, failures: Failures) -> None:
+        self._started = started
+        self._handle = started.handle
+        self._key = started.key
+        self._identity = started.identity
         self._is_recording = self._identity.is_recording
-        self._is_over = False
         self._origin = origin
         self._failures = failures
+
+    @property
+    def _is_over(self) -> bool:
+        return self._started.is_over
 
     @property
     def context(self) -> SpanContext:
@@ -171,24 +176,13 @@ class Span:
     def end(self, moment: Optional[int] = None) -> None:
         """Ends the span, now or at a moment, and hands it on where it is sampled. Only the first end counts."""
         when = moment_of(moment)
-        self._finish(lambda handle: handle.end(self._key, when))
+        if not self._is_over:
+            self._started.finish("otel_end", when)
 
     def abandon(self) -> None:
         """Ends the span, and hands nothing on."""
-        self._finish(lambda handle: handle.abandon(self._key))
-
-    def _finish(self, finish: Callable[[Handle], None]) -> None:
-        if self._is_over:
-            return
-        self._is_over = True
-        try:
-            finish(self._handle)
-        except OtelError as error:
-            self._failures.note(error)
-
-    def __del__(self) -> None:
-        if not getattr(self, "_is_over", True):
-            self._handle.forget(self._key)
+        if not self._is_over:
+            self._started.finish("otel_abandon")
 
 
 class UnstartedSpan(Span):
@@ -196,9 +190,12 @@ class UnstartedSpan(Span):
 
     def __init__(self, parent: "Parent") -> None:
         self._is_recording = False
-        self._is_over = True
         self.parent = parent
         self._identity = parent._identity if isinstance(parent, Span) else NOBODY
+
+    @property
+    def _is_over(self) -> bool:
+        return True
 
     def key_at(self, handle: Handle) -> Optional[int]:
         """No handle has it."""

@@ -9,7 +9,7 @@ import threading
 import unittest
 from decimal import Decimal
 
-from otel_proved import ROOT, Busy, Kind, NoSuchSpan, NotUtf8, OutOfMemory, Remote, StatusCode, current_span, use_span
+from otel_proved import ROOT, Kind, NoSuchSpan, NotUtf8, OutOfMemory, Remote, StatusCode, current_span, use_span
 
 from .support import PipelineTest, attributes_of
 
@@ -286,20 +286,6 @@ class WithoutMemory(PipelineTest):
                 pass
         self.assertEqual((self.exported(), self.pipeline.lost_spans, self.pipeline.failed_calls), ({}, 1, 1))
         self.assertEqual(self.pipeline.counts().open_spans, 0)
-
-    def test_a_call_within_a_call_is_refused(self):
-        def interrupting(*arguments):
-            self.pipeline.start_span("interrupts").end()
-            return real(*arguments)
-
-        functions = self.pipeline._handle._functions
-        real = functions["otel_with_integer"]
-        functions["otel_with_integer"] = interrupting
-        self.addCleanup(functions.__setitem__, "otel_with_integer", real)
-        with self.pipeline.span("whole", attributes={"a": 1, "b": 2}):
-            pass
-        self.assertEqual(attributes_of(self.exported()["whole"]), {"a": 1, "b": 2})
-        self.assertIsInstance(self.pipeline.last_failure, Busy)
 
 
 if __name__ == "__main__":
