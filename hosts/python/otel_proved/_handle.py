@@ -8,7 +8,7 @@ import contextlib
 import ctypes
 import weakref
 from functools import partial
-from typing import Any, Deque, Dict, List, NamedTuple, Sequence, Set, Union
+from typing import Any, Callable, Deque, Dict, List, NamedTuple, Sequence, Set, Union
 
 from . import _declarations, _fork, _native
 from ._counting import Count
@@ -21,6 +21,7 @@ from .errors import OtelError, OtherProcess
 NO_SPAN = 0
 # What most answers fit into, in bytes.
 _ROOM = 512
+_ENDS_TO_WAKE = 256
 
 
 class Scope(NamedTuple):
@@ -116,11 +117,14 @@ class Finish(NamedTuple):
 class Handle:
     """An open handle. Each method answers what the library does, or raises an OtelError."""
 
-    def __init__(self, settings: bytes, seed: int, failures: Failures) -> None:
+    def __init__(self, settings: bytes, seed: int, failures: Failures, wake: Callable[[], None]) -> None:
         self._functions = _native.functions()
         self._memory = _native.HandleMemory()
         self._address = ctypes.byref(self._memory)
         self._failures = failures
+        # Is called after each 256 ends, since they may have exported a batch.
+        self._wake = wake
+        self._ended = Count()
         self._turns = Turns()
         self._tracers: Dict[Scope, int] = {NO_SCOPE: 0}
         self._queue: Deque[Finish] = collections.deque()
@@ -257,6 +261,10 @@ class Handle:
         status = self._turns.take([end])
         if status == _native.OK and finish.how == _FORGET:
             self._forgotten.add()
+        if status == _native.OK and finish.how == _END:
+            self._ended.add()
+            if self._ended.number % _ENDS_TO_WAKE == 0:
+                self._wake()
         if status in (_native.OK, _native.NO_SUCH_SPAN):
             return
         self._note(finish, _native.error_of(finish.how, status))

@@ -28,7 +28,7 @@ class Outbox:
 
     def __init__(self, most_spans: int) -> None:
         self._most_spans = most_spans
-        self._waiting_spans = 0
+        self.waiting_spans = 0
         self._lines: Deque[Line] = collections.deque()
         self.sent_lines = 0
         self.sent_spans = 0
@@ -43,8 +43,8 @@ class Outbox:
         for text in lines:
             line = Line(text, spans_in(text))
             self._lines.append(line)
-            self._waiting_spans += line.spans
-        while self._waiting_spans > self._most_spans and len(self._lines) > 1:
+            self.waiting_spans += line.spans
+        while self.waiting_spans > self._most_spans and len(self._lines) > 1:
             self.lose()
 
     def first(self) -> Optional[Line]:
@@ -70,5 +70,5 @@ class Outbox:
 
     def _take_first(self) -> int:
         spans = self._lines.popleft().spans
-        self._waiting_spans -= spans
+        self.waiting_spans -= spans
         return spans

@@ -6,12 +6,16 @@ from __future__ import annotations
 import abc
 import contextlib
 import secrets
+import time
+from functools import partial
 from typing import Dict, List, Mapping, Optional, Protocol
 
 from . import _fork
 from ._failures import Failures
 from ._handle import NO_SCOPE, NO_SPAN, Beginning, Handle, Scope, Started
 from ._native import Counts
+from ._notices import Notices, warn
+from ._outbox import spans_in
 from ._settings import settings_of
 from ._values import Attributes, encode_all, moment_of, utf8
 from .current import SpanBlock, current_span
@@ -27,6 +31,9 @@ class Follower(Protocol):
 
     def resume(self) -> None:
         """Goes on, after a fork has left its thread in the parent."""
+
+    def wake(self) -> None:
+        """Is told that some hundred spans have ended. It is called in the middle of the work, and does little."""
 
     def close(self) -> object:
         """Finishes."""
@@ -95,9 +102,13 @@ class Pipeline(Starter, _fork.Renewed):
     def __init__(self, settings: Optional[Mapping[str, str]] = None, seed: Optional[int] = None) -> None:
         self._settings, refused = settings_of(settings)
         self._failures = Failures()
+        self._notices = Notices()
+        self._seen_lost = 0
         self._followers: List[Follower] = []
+        #: How many spans were in the lines that `close` handed back.
+        self.returned_spans = 0
         self._opened: Dict[str, Handle] = {}
-        self._handle = Handle(self._settings, _seed_of(seed), self._failures)
+        self._handle = Handle(self._settings, _seed_of(seed), self._failures, partial(_wake, self._followers))
         #: The names of the settings that were ignored: unknown ones, and those whose value does not read.
         self.ignored_settings = [*refused, *self._handle.ignored_settings()]
         _fork.register(self)
@@ -133,7 +144,7 @@ class Pipeline(Starter, _fork.Renewed):
         return self._handle
 
     def _open_anew(self) -> None:
-        handle = Handle(self._settings, _seed_of(None), self._failures)
+        handle = Handle(self._settings, _seed_of(None), self._failures, partial(_wake, self._followers))
         if self._handle.is_shut_down:
             handle.shutdown()
         # Another thread, or the handler of a signal, may have opened one meanwhile.
@@ -170,12 +181,14 @@ class Pipeline(Starter, _fork.Renewed):
         return self._live().count()
 
     def run(self, moment: Optional[int] = None) -> None:
-        """Exports what is due, now or at a moment."""
-        self._live().run(moment_of(moment))
+        """Exports what is due, now or at a moment in nanoseconds of `time.monotonic_ns`, which never goes back."""
+        self._live().run(time.monotonic_ns() if moment is None else moment_of(moment))
+        self._look()
 
     def flush(self) -> None:
         """Exports what waits."""
         self._live().flush()
+        self._look()
 
     def drain(self) -> List[bytes]:
         """The lines of what was exported, without their line feeds. They are then forgotten."""
@@ -195,17 +208,37 @@ class Pipeline(Starter, _fork.Renewed):
         handle = self._live()
         for follower in self._followers:
             follower.close()
-        return _lines_of(handle.close())
+        self._look()
+        lines = _lines_of(handle.close())
+        self.returned_spans += sum(map(spans_in, lines))
+        return lines
+
+    def _look(self) -> None:
+        """Warns where spans were dropped, refused or lost since it looked last."""
+        counts = self._live().count()
+        lost = counts.dropped_spans + counts.refused_spans + self.lost_spans
+        if lost + counts.lost_batches > self._seen_lost:
+            self._seen_lost = lost + counts.lost_batches
+            said = "%d spans and %d batches of spans are lost: the queue was full, or memory ran out"
+            self._notices.warn("lost", said, lost, counts.lost_batches)
 
     def __enter__(self) -> "Pipeline":
         return self
 
     def __exit__(self, *_: object) -> None:
         self.close()
+        if self.returned_spans:
+            warn("spans that were exported, that nobody drained, and that are lost: %d", self.returned_spans)
 
     def after_fork_in_child(self) -> None:
-        """What a parent opened anew is not the child's."""
+        """What a parent opened anew, and what it lost, is not the child's."""
         self._opened = {}
+        self._seen_lost = 0
+
+
+def _wake(followers: List[Follower]) -> None:
+    for follower in followers:
+        follower.wake()
 
 
 def _seed_of(seed: Optional[int]) -> int:

@@ -1,26 +1,43 @@
 # SPDX-License-Identifier: Apache-2.0
-"""Sends what a pipeline exports to a collector, from a thread in the background."""
+"""Sends what a pipeline exports to a collector, from threads in the background."""
 
 from __future__ import annotations
 
 import atexit
-import random
+import queue
 import threading
-import time
-from typing import List, Mapping, Optional
+from typing import List, Mapping, Optional, Union
 
 from . import _fork
+from ._delivery import Delivery
 from ._destination import destination_of
-from ._outbox import Outbox
-from ._posting import Answer, Outcome, Poster
+from ._notices import Notices
+from ._posting import Poster
 from .errors import OtelError
 from .pipeline import Pipeline
 
 _AGENT = "otel_proved (Python)"
-_FIRST_WAIT, _LONGEST_WAIT = 1.0, 60.0
-# A collector may ask for no wait at all, and be asked too often then.
-_SHORTEST_WAIT = 0.1
 _GREATEST = 1_000_000
+# How many seconds a thread may take to say that it has ended.
+_TO_END = 1.0
+
+
+class _Flush:
+    """Has all exported and sent; the reply comes when no line waits."""
+
+    def __init__(self) -> None:
+        self.reply: "queue.SimpleQueue[bool]" = queue.SimpleQueue()
+
+
+class _Close(_Flush):
+    """Has the threads end; the reply comes when what waited was given up."""
+
+
+class _Turn:
+    """Has what is due taken now."""
+
+
+_Order = Union[_Flush, _Turn]
 
 
 class Sender(_fork.Renewed):
@@ -29,7 +46,8 @@ class Sender(_fork.Renewed):
     At an interval, in seconds, it exports what is due and posts the lines. The endpoint is a URL, to which /v1/traces
     is added where it has no path; without one the environment's OTEL_EXPORTER_OTLP_* variables say it. A line is tried
     again, after growing waits, where there is no answer and at the statuses 429, 502, 503 and 504. Lines that another
-    status refuses, and the oldest where more than `max_spans` wait in them, are given up and counted.
+    status refuses, and the oldest where more than `max_spans` wait in them, are given up and counted. Lines are taken
+    in while one is posted too, and whenever some hundred spans have ended, so that few wait elsewhere.
     """
 
     def __init__(
@@ -67,123 +85,137 @@ class Sender(_fork.Renewed):
                 raise ValueError(f"{name} must be more than 0 and at most {_GREATEST}, not {number!r}")
 
     def _renew(self) -> None:
-        """What each process has of its own. The condition guards the rest."""
-        self._wake = threading.Condition()
+        """What each process has of its own. Orders come to the thread by a queue, which needs no lock to be let go."""
+        self._orders: "queue.SimpleQueue[_Order]" = queue.SimpleQueue()
+        self._flushes: List[_Flush] = []
         self._thread: Optional[threading.Thread] = None
-        self._outbox = Outbox(self._most_spans)
-        self._flushes_asked = 0
-        self._flushes_seen = 0
-        self._flushes_done = 0
-        self._wait = _FIRST_WAIT
-        self._next_try = 0.0
-        #: What went wrong last.
-        self.last_failure = ""
+        # The first to ask may: a step of C code, which needs no lock either.
+        self._may_start = iter((True,))
+        self._delivery = Delivery(self._poster, self._most_spans, self.endpoint, Notices())
+
+    @property
+    def last_failure(self) -> str:
+        """What went wrong last."""
+        return self._delivery.last_failure
 
     @property
     def waiting_lines(self) -> int:
         """How many lines wait to be sent."""
-        return len(self._outbox)
+        return len(self._delivery.outbox)
+
+    @property
+    def waiting_spans(self) -> int:
+        """How many spans wait in them."""
+        return self._delivery.outbox.waiting_spans
 
     @property
     def sent_lines(self) -> int:
         """How many lines the collector took."""
-        return self._outbox.sent_lines
+        return self._delivery.outbox.sent_lines
 
     @property
     def sent_spans(self) -> int:
         """How many spans it took with them."""
-        return self._outbox.sent_spans
+        return self._delivery.outbox.sent_spans
 
     @property
     def lost_lines(self) -> int:
         """How many lines were given up."""
-        return self._outbox.lost_lines
+        return self._delivery.outbox.lost_lines
 
     @property
     def lost_spans(self) -> int:
         """How many spans were given up with them, or not taken by the collector."""
-        return self._outbox.lost_spans
+        return self._delivery.outbox.lost_spans
 
     def flush(self, timeout: float = 10.0) -> bool:
         """Exports and sends all that has ended, and answers whether no line was left after so many seconds.
 
         A wait before the next try is kept to here too.
         """
+        if self._is_closing:
+            return False
         self._start()
-        with self._wake:
-            if self._is_closing:
-                return False
-            self._flushes_asked += 1
-            ticket = self._flushes_asked
-            self._wake.notify_all()
-            return self._wake.wait_for(lambda: self._flushes_done >= ticket, timeout)
+        return self._answered(_Flush(), timeout)
+
+    def _answered(self, order: _Flush, timeout: float) -> bool:
+        self._orders.put(order)
+        try:
+            return order.reply.get(timeout=max(timeout, 0.0))
+        except queue.Empty:
+            return False
 
     def close(self, timeout: Optional[float] = None) -> bool:
-        """Flushes, ends the thread, gives up what is left, and answers whether nothing was."""
+        """Flushes, ends the threads, gives up what is left, and answers whether nothing was."""
         atexit.unregister(self.close)
         if self._thread is None or self._is_closing:
             self._is_closing = True
             return self.waiting_lines == 0
         is_sent = self.flush(self._exit_timeout if timeout is None else timeout)
-        with self._wake:
-            self._is_closing = True
-            self._wake.notify_all()
-            self._give_up()
+        self._is_closing = True
+        self._answered(_Close(), _TO_END)
         return is_sent
 
-    def _give_up(self) -> None:
-        """Counts the lines that are left as lost; the one that is being posted may still be taken."""
-        while self._outbox:
-            self._outbox.lose()
-
     def resume(self) -> None:
-        """Goes on in a child process, whose thread is not there."""
+        """Goes on in a child process, whose threads are not there."""
         try:
             self._start()
         except RuntimeError as error:
             self._note(f"no thread: {error}")
 
+    def wake(self) -> None:
+        """Takes what the pipeline has, soon and not after the interval alone."""
+        if not self._is_closing:
+            self._orders.put(_Turn())
+
     def _start(self) -> None:
-        with self._wake:
-            if not self._is_closing and (self._thread is None or not self._thread.is_alive()):
-                self._thread = threading.Thread(target=self._work, name="otel_proved.Sender", daemon=True)
-                self._thread.start()
+        if self._is_closing or not next(self._may_start, False):
+            return
+        try:
+            words = {"args": (self._orders,), "name": "otel_proved.Sender", "daemon": True}
+            self._thread = threading.Thread(target=self._work, **words)  # type: ignore[arg-type]
+            self._thread.start()
+        except BaseException:
+            self._may_start = iter((True,))
+            raise
 
     def after_fork_in_child(self) -> None:
-        """The lines and the thread are the parent's. The child's thread starts with its first span or flush."""
+        """The lines and the threads are the parent's. The child's start with its first span or flush."""
         self._renew()
 
     def _note(self, why: str) -> None:
-        self.last_failure = why
+        self._delivery.last_failure = why
 
-    def _work(self) -> None:
+    def _work(self, orders: "queue.SimpleQueue[_Order]") -> None:
+        self._delivery.start()
         while True:
-            with self._wake:
-                self._wake.wait_for(self._is_called, self._seconds_to_wait())
-                if self._is_closing:
-                    return self._give_up()
-                asked = self._flushes_seen = self._flushes_asked
+            order = self._next_order(orders)
+            if isinstance(order, _Flush):
+                self._flushes.append(order)
             try:
-                self._take_turn(asked)
+                self._take_turn()
             except Exception as error:
                 # The thread goes on, whatever it is: what is not sent waits for the next turn.
                 self._note(repr(error))
+            if isinstance(order, _Close):
+                self._delivery.close()
+                return order.reply.put(True)
 
-    def _take_turn(self, asked: int) -> None:
-        """Takes what the pipeline has and posts it; a flush that was not done is tried again at each turn."""
-        has_all = self._gather(is_flush=asked > self._flushes_done)
-        self._post_lines()
-        with self._wake:
-            if has_all and not self._outbox:
-                self._flushes_done = asked
-                self._wake.notify_all()
+    def _next_order(self, orders: "queue.SimpleQueue[_Order]") -> _Order:
+        """The next order; a turn where none comes for the interval. One turn does for several."""
+        try:
+            order = orders.get(timeout=self._interval)
+            while isinstance(order, _Turn):
+                order = orders.get_nowait()
+            return order
+        except queue.Empty:
+            return _Turn()
 
-    def _is_called(self) -> bool:
-        return self._is_closing or self._flushes_asked > self._flushes_seen
-
-    def _seconds_to_wait(self) -> float:
-        until_try = max(0.0, self._next_try - time.monotonic())
-        return min(self._interval, until_try) if self._outbox else self._interval
+    def _take_turn(self) -> None:
+        """Takes what the pipeline has; a flush for which that failed is tried again at each turn."""
+        if self._gather(is_flush=bool(self._flushes)):
+            while self._flushes:
+                self._delivery.reply_when_empty(self._flushes.pop().reply)
 
     def _gather(self, is_flush: bool) -> bool:
         """Has the pipeline export, all or what is due, and takes the lines. Answers whether it could take them."""
@@ -200,34 +232,5 @@ class Sender(_fork.Renewed):
         except OtelError as error:
             self._note(str(error))
             return False
-        with self._wake:
-            self._outbox.put(lines)
+        self._delivery.put(lines)
         return True
-
-    def _post_lines(self) -> None:
-        """Posts lines until none waits, or one is to be sent later."""
-        while time.monotonic() >= self._next_try:
-            with self._wake:
-                line = self._outbox.first()
-            if line is None:
-                return
-            answer = self._poster.post(line.text)
-            with self._wake:
-                if not self._outbox.holds(line):
-                    return
-                self._settle(answer)
-
-    def _settle(self, answer: Answer) -> None:
-        if answer.why:
-            self._note(answer.why)
-        if answer.outcome is Outcome.LATER:
-            # Services that failed together are not to try again together.
-            wait = self._wait * random.uniform(0.5, 1.0) if answer.wait is None else max(answer.wait, _SHORTEST_WAIT)
-            self._next_try = time.monotonic() + wait
-            self._wait = min(self._wait * 2, _LONGEST_WAIT)
-            return
-        self._wait = _FIRST_WAIT
-        if answer.outcome is Outcome.TAKEN:
-            self._outbox.sent(answer.rejected_spans)
-        else:
-            self._outbox.lose()

@@ -141,7 +141,7 @@ class TriesAgain(SenderTest):
             self.assertTrue(sender.flush(PATIENCE))
             self.assertEqual(len(collector.came), 5)
         self.assertEqual(waits, [(0.5, 1.0)] * 4)
-        self.assertEqual(sender._wait, 1.0)
+        self.assertEqual(sender._delivery.wait, 1.0)
 
     def test_as_late_as_is_asked(self):
         collector = self.collector((503, {"Retry-After": "1"}, b""))
