@@ -4,11 +4,10 @@
 from __future__ import annotations
 
 import collections
-import contextlib
 import ctypes
 import weakref
 from functools import partial
-from typing import Any, Callable, Deque, Dict, List, NamedTuple, Sequence, Set, Union
+from typing import Any, Callable, Deque, Dict, List, NamedTuple, Optional, Sequence, Set, TypeVar, Union
 
 from . import _declarations, _fork, _native
 from ._counting import Count
@@ -103,6 +102,7 @@ class Watch(weakref.ref):  # type: ignore[type-arg]
     key_cell: ctypes.c_uint64
 
 
+_Item = TypeVar("_Item")
 _END, _ABANDON, _FORGET = "otel_end", "otel_abandon", "forget"
 
 
@@ -112,6 +112,22 @@ class Finish(NamedTuple):
     key: int
     how: str
     moment: Sequence[int] = ()
+
+
+def _first(waiting: "Deque[_Item]") -> Optional[_Item]:
+    try:
+        return waiting[0]
+    except IndexError:
+        # Another thread has taken the last one.
+        return None
+
+
+def _drop(waiting: "Deque[_Item]", item: _Item) -> None:
+    try:
+        waiting.remove(item)
+    except ValueError:
+        # Another thread carried it out too.
+        pass
 
 
 class Handle:
@@ -241,17 +257,14 @@ class Handle:
         Each stays in the queue until it is done, so that an exception loses none. A second time nothing comes of it.
         """
         while (self._queue or self._gone) and not self._turns.is_mine:
-            # Another thread may have taken the last one meanwhile.
-            with contextlib.suppress(IndexError, ValueError):
-                if self._queue:
-                    finish = self._queue[0]
-                    self._settle(finish)
-                    self._queue.remove(finish)
-                else:
-                    watch = self._gone[0]
-                    self._settle(Finish(watch.key_cell.value, _FORGET))
-                    self._watches.discard(watch)
-                    self._gone.remove(watch)
+            finish, watch = _first(self._queue), _first(self._gone)
+            if finish is not None:
+                self._settle(finish)
+                _drop(self._queue, finish)
+            elif watch is not None:
+                self._settle(Finish(watch.key_cell.value, _FORGET))
+                self._watches.discard(watch)
+                _drop(self._gone, watch)
 
     def _settle(self, finish: Finish) -> None:
         if self.is_foreign:

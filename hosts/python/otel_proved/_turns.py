@@ -3,7 +3,7 @@
 
 Python runs the handler of a signal between two steps of Python code, and what it raises goes on from there: after a
 lock is taken and before it is known to be, for one. So a turn has no step of Python code: C code takes the lock, makes
-the calls and lets go of it. What can come between is the garbage collector of Python 3.11 and earlier, with what it runs.
+the calls and lets go of it. What can come between is what the garbage collector of Python 3.11 and earlier runs.
 """
 
 from __future__ import annotations

@@ -6,19 +6,24 @@ from __future__ import annotations
 import contextlib
 import contextvars
 from types import TracebackType
-from typing import Callable, Iterator, Optional, Type
+from typing import Callable, Dict, Iterator, Optional, Type
 
-from .span import Span
+from ._failures import Failures
+from .span import Span, UnstartedSpan
 
-_current: "contextvars.ContextVar[Optional[Span]]" = contextvars.ContextVar("otel_proved_current_span", default=None)
+_Token = contextvars.Token  # type: ignore[type-arg]
+
+#: What the current span is where there is none: it takes all calls, and its children are roots.
+NO_SPAN: Span = UnstartedSpan(None, Failures())
+_current: "contextvars.ContextVar[Span]" = contextvars.ContextVar("otel_proved_current_span", default=NO_SPAN)
 
 
-def current_span() -> Optional[Span]:
-    """The span whose block this is, if there is one. A new thread begins without one."""
+def current_span() -> Span:
+    """The span whose block this is, or else one that records nothing and is not valid. A new thread begins so."""
     return _current.get()
 
 
-def _leave(token: "contextvars.Token[Optional[Span]]") -> None:
+def _leave(token: _Token) -> None:
     try:
         _current.reset(token)
     except ValueError:
@@ -29,7 +34,7 @@ def _leave(token: "contextvars.Token[Optional[Span]]") -> None:
 @contextlib.contextmanager
 def use_span(span: Span) -> Iterator[Span]:
     """Makes a span the current one for a block, and leaves it open after it."""
-    token = _current.set(span)
+    token = _current.set(span if isinstance(span, Span) else NO_SPAN)
     try:
         yield span
     finally:
@@ -37,15 +42,24 @@ def use_span(span: Span) -> Iterator[Span]:
 
 
 class SpanBlock:
-    """A block of a `with` in a span of its own, which starts with the block and ends with it."""
+    """A block of a `with` in a span of its own, which starts with the block and ends with it.
+
+    It may be entered again, also before it is left, and has a new span each time.
+    """
 
     def __init__(self, start: Callable[[], Span]) -> None:
         self._start = start
+        self._entered: Dict[Span, _Token] = {}
 
     def __enter__(self) -> Span:
-        self._span = self._start()
-        self._token = _current.set(self._span)
-        return self._span
+        before, span = _current.get(), self._start()
+        try:
+            self._entered[span] = _current.set(span)
+            return span
+        except BaseException:
+            # The handler of a signal raised: the block does not begin.
+            _current.set(before)
+            raise
 
     def __exit__(
         self,
@@ -53,10 +67,16 @@ class SpanBlock:
         error: Optional[BaseException],
         trace: Optional[TracebackType],
     ) -> None:
-        _leave(self._token)
+        span, token = self._left()
         try:
-            # A generator of which no more is asked is closed by an exception that is no error.
-            if error is not None and not isinstance(error, GeneratorExit):
-                self._span.record_error(error)
+            _leave(token)
+            span.record_way_out(error)
         finally:
-            self._span.end()
+            span.end()
+
+    def _left(self) -> "tuple[Span, _Token]":
+        """The current span, where it was entered here; in the context of another, the last one that was."""
+        span = _current.get()
+        if span in self._entered:
+            return span, self._entered.pop(span)
+        return self._entered.popitem()

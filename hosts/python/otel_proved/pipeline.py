@@ -17,11 +17,11 @@ from ._native import Counts
 from ._notices import Notices, warn
 from ._outbox import spans_in
 from ._settings import settings_of
-from ._values import Attributes, encode_all, moment_of, utf8
+from ._values import Attributes, encode_all, moment_fault, moment_near, text_of
 from .current import SpanBlock, current_span
 from .errors import NoSuchSpan, OtelError
 from .remote import Remote
-from .span import ROOT, Kind, Parent, Span, UnstartedSpan, origin_of, remote_of, started_parent
+from .span import ROOT, Kind, Parent, Span, UnstartedSpan, member_of, origin_of, remote_of, started_parent
 
 _LAST_SEED = 2**64 - 1
 
@@ -43,6 +43,7 @@ class Starter(abc.ABC):
     """What starts spans."""
 
     _scope = NO_SCOPE
+    _failures: Failures
 
     @abc.abstractmethod
     def _begin(self, beginning: Beginning, parent: Parent) -> Span:
@@ -58,12 +59,15 @@ class Starter(abc.ABC):
     ) -> Span:
         """Starts a span, which you end. Its parent is the current span where none is given; that of ROOT is none.
 
-        Where it cannot start it records nothing, and the failure is counted.
+        Where it cannot start it records nothing, and the failure is counted. So is an argument that is wrong; it stands
+        for the default then.
         """
-        named, encoded = utf8(name, "a span's name"), encode_all(attributes)
+        failures, encoded = self._failures, encode_all(attributes, self._failures)
         if not isinstance(parent, (Span, Remote, type(None))):
-            raise TypeError(f"a parent is a Span or a Remote, not {type(parent).__name__}")
-        beginning = Beginning(self._scope, Kind(kind), named, encoded, moment_of(moment))
+            failures.refuse(f"a parent is a Span or a Remote, not {type(parent).__name__}")
+            parent = None
+        known = member_of(Kind, kind, failures) or Kind.INTERNAL
+        beginning = Beginning(self._scope, known, text_of(name), encoded, moment_near(moment, failures))
         return self._begin(beginning, current_span() if parent is None else parent)
 
     def span(
@@ -86,6 +90,7 @@ class Tracer(Starter):
 
     def __init__(self, pipeline: "Pipeline", scope: Scope) -> None:
         self._pipeline = pipeline
+        self._failures = pipeline._failures
         self._scope = scope
 
     def _begin(self, beginning: Beginning, parent: Parent) -> Span:
@@ -115,8 +120,7 @@ class Pipeline(Starter, _fork.Renewed):
 
     def tracer(self, name: str, version: str = "", schema_url: str = "") -> Tracer:
         """Who starts the spans of a library."""
-        texts = utf8(name, "a tracer's name"), utf8(version, "a version"), utf8(schema_url, "a schema URL")
-        return Tracer(self, Scope(*texts))
+        return Tracer(self, Scope(*map(text_of, (name, version, schema_url))))
 
     def _begin(self, beginning: Beginning, parent: Parent) -> Span:
         parent = started_parent(parent)
@@ -124,7 +128,7 @@ class Pipeline(Starter, _fork.Renewed):
             started = self._started(self._live(), beginning, parent)
         except OtelError as error:
             self._failures.note(error)
-            return UnstartedSpan(parent)
+            return UnstartedSpan(parent, self._failures)
         return Span(started, origin_of(parent), self._failures)
 
     def _started(self, handle: Handle, beginning: Beginning, parent: Parent) -> Started:
@@ -162,6 +166,11 @@ class Pipeline(Starter, _fork.Renewed):
         return self._failures.count
 
     @property
+    def left_out_attributes(self) -> int:
+        """How many attributes were left out, since attributes have no such type."""
+        return self._failures.left_out_attributes
+
+    @property
     def last_failure(self) -> Optional[OtelError]:
         """Why the last of them failed."""
         return self._failures.last
@@ -182,7 +191,10 @@ class Pipeline(Starter, _fork.Renewed):
 
     def run(self, moment: Optional[int] = None) -> None:
         """Exports what is due, now or at a moment in nanoseconds of `time.monotonic_ns`, which never goes back."""
-        self._live().run(time.monotonic_ns() if moment is None else moment_of(moment))
+        fault = "" if moment is None else moment_fault(moment)
+        if fault:
+            raise ValueError(fault)
+        self._live().run(time.monotonic_ns() if moment is None else moment)
         self._look()
 
     def flush(self) -> None:

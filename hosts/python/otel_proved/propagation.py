@@ -17,12 +17,10 @@ def inject(headers: MutableMapping[str, str], span: Optional[Span] = None) -> No
 
     Without a span it leaves all as it is.
     """
-    span = span or current_span()
-    if span is None:
-        return
-    for name in [it for it in headers if _field_of(it)]:
+    fields = list((span or current_span()).headers().fields())
+    for name in [it for it in headers if _field_of(it)] if fields else ():
         del headers[name]
-    for name, value in span.headers().fields():
+    for name, value in fields:
         headers[name] = value
 
 
@@ -30,16 +28,24 @@ def extract(headers: Headers) -> Remote:
     """What a request's headers say, from a mapping or from pairs of a name and a value, each str or bytes.
 
     The case of a name says nothing. Several fields of one name are joined by commas, but two of `traceparent` say
-    nothing, and neither does a field with a control character or, read as Latin-1, without good UTF-8.
+    nothing, and neither does a field with a control character or, read as Latin-1, without good UTF-8, nor what is no
+    header.
     """
     found: Dict[str, List[str]] = {name: [] for name in FIELDS}
-    for name, value in headers.items() if hasattr(headers, "items") else headers:
+    for name, value in _pairs_of(headers):
         field = _field_of(name)
         if field:
-            found[field].append(_text_of(value, field))
+            found[field].append(_text_of(value))
     if len(found["traceparent"]) > 1:
         found["traceparent"] = []
     return Remote(**{name: ",".join(filter(None, values)) for name, values in found.items()})
+
+
+def _pairs_of(headers: Headers) -> List[Tuple[Any, Any]]:
+    try:
+        return [(name, value) for name, value in (headers.items() if hasattr(headers, "items") else headers)]
+    except (AttributeError, TypeError, ValueError):
+        return []
 
 
 def _field_of(name: Any) -> Optional[str]:
@@ -49,10 +55,10 @@ def _field_of(name: Any) -> Optional[str]:
     return lowered if lowered in FIELDS else None
 
 
-def _text_of(value: Any, field: str) -> str:
+def _text_of(value: Any) -> str:
     """The text of a field, which servers hand on as Latin-1; an empty one where it says nothing."""
     if not isinstance(value, (str, bytes)):
-        raise TypeError(f"the header {field} must be a str or bytes, not {type(value).__name__}")
+        return ""
     read = _decoded(value) if isinstance(value, bytes) else _as_utf8(value)
     return "" if CONTROL.search(read) else read
 

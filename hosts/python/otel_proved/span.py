@@ -1,19 +1,22 @@
 # SPDX-License-Identifier: Apache-2.0
 """Spans: work that has a beginning and an end.
 
-A call on a span raises nothing but TypeError and ValueError, for arguments that are wrong. What else goes wrong, such
-as no memory for an attribute or an edit of a span that has ended, is counted in `Pipeline.failed_calls`.
+A call on a span raises nothing. What goes wrong, such as an argument that is wrong, no memory for an attribute or an
+edit of a span that has ended, is counted in `Pipeline.failed_calls`; an attribute of a type that attributes do not have
+is left out, and counted in `Pipeline.left_out_attributes`.
 """
 
 from __future__ import annotations
 
 import enum
+import itertools
+import sys
 import traceback
-from typing import Any, Callable, List, NamedTuple, Optional, Tuple, Union
+from typing import Any, Callable, List, NamedTuple, Optional, Type, TypeVar, Union
 
 from ._failures import Failures
 from ._handle import NOBODY, Handle, Started
-from ._values import Attributes, Encoded, Value, encode, encode_all, moment_of, text, utf8
+from ._values import Attributes, Encoded, Value, encode, encode_all, moment_near, text, text_of
 from .errors import NoSuchSpan, OtelError
 from .remote import Remote
 
@@ -124,25 +127,31 @@ class Span:
 
     def set_attribute(self, key: str, value: Value) -> None:
         """Sets an attribute: a str, a bool, an int of 64 bits, a float, or a list of one of these."""
-        encoded = encode(key, value)
-        if encoded.is_list:
+        encoded = encode(key, value, self._failures) if self._is_recording else None
+        if encoded is not None and encoded.is_list:
             self._edit_with([encoded], "otel_set_attributes")
-        else:
+        elif encoded is not None:
             self._edit(f"otel_set_{encoded.form}", *encoded.arguments)
 
     def set_attributes(self, attributes: Attributes) -> None:
-        """Sets attributes, all or none of them."""
-        self._edit_with(encode_all(attributes), "otel_set_attributes")
+        """Sets attributes, all or none of those that are not left out."""
+        self._edit_with(self._encoded(attributes), "otel_set_attributes")
+
+    def _encoded(self, attributes: Optional[Attributes]) -> List[Encoded]:
+        return encode_all(attributes, self._failures) if self._is_recording else []
 
     def add_event(self, name: str, attributes: Optional[Attributes] = None, moment: Optional[int] = None) -> None:
         """Adds an event; without a moment it is now."""
-        named = text(utf8(name, "an event's name"))
-        self._edit_with(encode_all(attributes), "otel_add_event", *named, moment_of(moment))
+        when = moment_near(moment, self._failures)
+        self._edit_with(self._encoded(attributes), "otel_add_event", *text(text_of(name)), when)
 
     def add_link(self, linked: Union["Span", Remote], attributes: Optional[Attributes] = None) -> None:
         """Adds a link to another span, also of another process."""
-        encoded = encode_all(attributes)
-        check_link(linked)
+        encoded = self._encoded(attributes)
+        if not isinstance(linked, (Span, Remote)):
+            return self._failures.refuse(f"a link goes to a Span or a Remote, not to {type(linked).__name__}")
+        if not self._is_recording:
+            return
         key = linked.key_at(self._handle) if isinstance(linked, Span) else None
         if key is not None:
             return self._edit_with(encoded, "otel_add_link", key)
@@ -151,31 +160,38 @@ class Span:
 
     def set_status(self, code: StatusCode, description: str = "") -> None:
         """Says how the work went; only an error has a description."""
-        described = text(utf8(description, "a status's description"))
-        self._edit("otel_set_status", StatusCode(code), *described)
+        known = member_of(StatusCode, code, self._failures)
+        if known is not None:
+            self._edit("otel_set_status", known, *text(text_of(description)))
 
     def update_name(self, name: str) -> None:
         """Gives the span another name."""
-        self._edit("otel_update_name", *text(utf8(name, "a span's name")))
+        self._edit("otel_update_name", *text(text_of(name)))
 
     def record_exception(self, error: BaseException, moment: Optional[int] = None) -> None:
         """Adds the event `exception`, with the error's type, message and traceback."""
         if not isinstance(error, BaseException):
-            raise TypeError(f"an exception must be one, not {type(error).__name__}")
-        when = moment_of(moment)
+            return self._failures.refuse(f"an exception must be one, not {type(error).__name__}")
+        when = moment_near(moment, self._failures)
         if self._is_recording:
-            said = "".join(traceback.format_exception(type(error), error, error.__traceback__))
-            texts = (*_lenient(_type_name(error)), *_lenient(_message(error)), *_lenient(said))
-            self._edit("otel_record_exception", *texts, when)
+            texts = map(text_of, (_type_name(error), _message(error), _traceback(error)))
+            self._edit("otel_record_exception", *itertools.chain.from_iterable(map(text, texts)), when)
 
     def record_error(self, error: BaseException) -> None:
         """Records an exception that the work ended by, and says by the status that it is an error."""
         self.record_exception(error)
-        self._edit("otel_set_status", StatusCode.ERROR, *_lenient(_message(error)))
+        if isinstance(error, BaseException):
+            self._edit("otel_set_status", StatusCode.ERROR, *text(text_of(_message(error))))
+
+    def record_way_out(self, error: Optional[BaseException]) -> None:
+        """Records what the work was left by, where that is an error: a program that ends well, a generator of which no
+        more is asked, and a task that is cancelled are none."""
+        if error is not None and not _is_no_error(error):
+            self.record_error(error)
 
     def end(self, moment: Optional[int] = None) -> None:
         """Ends the span, now or at a moment, and hands it on where it is sampled. Only the first end counts."""
-        when = moment_of(moment)
+        when = moment_near(moment, self._failures)
         if not self._is_over:
             self._started.finish("otel_end", when)
 
@@ -188,7 +204,8 @@ class Span:
 class UnstartedSpan(Span):
     """A span that could not start: it records nothing, and its children are those of its parent."""
 
-    def __init__(self, parent: "Parent") -> None:
+    def __init__(self, parent: "Parent", failures: Failures) -> None:
+        self._failures = failures
         self._is_recording = False
         self.parent = parent
         self._identity = parent._identity if isinstance(parent, Span) else NOBODY
@@ -204,11 +221,6 @@ class UnstartedSpan(Span):
     def as_remote(self) -> Remote:
         """The parent by its headers."""
         return remote_of(self.parent)
-
-    def add_link(self, linked: Union[Span, Remote], attributes: Optional[Attributes] = None) -> None:
-        """Looks at the arguments alone."""
-        encode_all(attributes)
-        check_link(linked)
 
 
 Parent = Union[Span, Remote, None]
@@ -233,11 +245,23 @@ def origin_of(parent: Parent) -> Remote:
 
 ROOT = Remote()
 
+_Named = TypeVar("_Named", bound=enum.IntEnum)
 
-def check_link(linked: Union[Span, Remote]) -> None:
-    """TypeError where a link cannot go there."""
-    if not isinstance(linked, (Span, Remote)):
-        raise TypeError(f"a link goes to a Span or a Remote, not to {type(linked).__name__}")
+
+def member_of(kind: Type[_Named], value: object, failures: Failures) -> Optional[_Named]:
+    """The member that a value stands for; None where it stands for none, which is counted."""
+    found = next((it for it in kind if it == value), None) if isinstance(value, int) else None
+    if found is None:
+        failures.refuse(f"it is of the type {type(value).__name__}, and no {kind.__name__}")
+    return found
+
+
+def _is_no_error(error: BaseException) -> bool:
+    if isinstance(error, SystemExit):
+        return error.code in (None, 0)
+    # Whoever has a task has the module.
+    tasks = sys.modules.get("asyncio.exceptions")
+    return isinstance(error, GeneratorExit) or (tasks is not None and isinstance(error, tasks.CancelledError))
 
 
 def _type_name(error: BaseException) -> str:
@@ -252,6 +276,5 @@ def _message(error: BaseException) -> str:
         return f"an error of the type {_type_name(error)}, whose text cannot be made"
 
 
-def _lenient(said: str) -> Tuple[bytes, int]:
-    """The arguments of a text from elsewhere, where a lone surrogate must not be an error."""
-    return text(said.encode("utf-8", "backslashreplace"))
+def _traceback(error: BaseException) -> str:
+    return "".join(traceback.format_exception(type(error), error, error.__traceback__))

@@ -41,7 +41,7 @@ class TracedApplication:
             with use_span(span):
                 parts = self._application(environment, start)
         except BaseException as error:
-            span.record_error(error)
+            span.record_way_out(error)
             _end(span, statuses)
             raise
         kind = _SizedResponse if hasattr(parts, "__len__") else _Response
@@ -99,7 +99,7 @@ class _Response:
         except StopIteration:
             raise
         except BaseException as error:
-            self._span.record_error(error)
+            self._span.record_way_out(error)
             raise
 
     def close(self) -> None:
@@ -110,7 +110,7 @@ class _Response:
                 with use_span(self._span):
                     close()
         except BaseException as error:
-            self._span.record_error(error)
+            self._span.record_way_out(error)
             raise
         finally:
             _end(self._span, self._statuses)

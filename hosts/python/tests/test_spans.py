@@ -5,11 +5,12 @@ import asyncio
 import contextvars
 import gc
 import math
+import sys
 import threading
 import unittest
 from decimal import Decimal
 
-from otel_proved import ROOT, Kind, NoSuchSpan, NotUtf8, OutOfMemory, Remote, StatusCode, current_span, use_span
+from otel_proved import ROOT, BadArgument, Kind, NoSuchSpan, OutOfMemory, Remote, StatusCode, current_span, use_span
 
 from .support import PipelineTest, attributes_of
 
@@ -82,38 +83,90 @@ class Keeps(PipelineTest):
         self.assertEqual(self.exported()["scoped"]["scope"], "shop")
 
 
-class Refuses(PipelineTest):
-    def test_values_of_other_types_change_nothing(self):
+class Odd(str):
+    def __str__(self):
+        raise RuntimeError
+
+
+class Leaves(PipelineTest):
+    """What is wrong with an argument is counted, and raises nothing."""
+
+    LISTS = [2**63], [[1]], [1, "a"], [True, 1], [1, 1.5], (None,)
+    WRONG = (None, 1j, Decimal(1), 2**63, -(2**63) - 1, b"x", {}, object(), *LISTS)
+
+    def test_attributes_of_other_types_are_left_out_and_the_others_stay(self):
         with self.pipeline.span("whole", attributes={"a": 1}) as span:
-            mixed = [1, "a"], [True, 1], [1, 1.5], [1.5, 1], [True, 1.5]
-            for value in (None, 1j, Decimal(1), 2**63, -(2**63) - 1, b"x", {}, [2**63], [[1]], *mixed):
-                for call in (span.set_attribute, lambda key, it: span.set_attributes({"good": 1, key: it})):
-                    self.assertRaises(TypeError, call, "key", value)
-                self.assertRaises(TypeError, span.add_event, "row", {"good": 1, "key": value})
-                self.assertRaises(TypeError, self.pipeline.start_span, "none", attributes={"key": value})
-            self.assertRaises(TypeError, span.set_attribute, 5, "value")
-            self.assertRaises(NotUtf8, span.set_attribute, "key", "\udc80")
-            self.assertRaises(NotUtf8, span.set_attribute, "key", ["\udc80"])
+            for value in self.WRONG:
+                span.set_attribute("key", value)
+                span.set_attributes({"good": 1, "key": value})
+                span.add_event("row", {"good": 1, "key": value})
+                span.add_link(span, {"good": 1, "key": value})
+                self.pipeline.start_span("started", attributes={"good": 1, "key": value}).end()
+            span.set_attribute(5, "value")
         found = self.exported()
-        self.assertEqual(list(found), ["whole"])
-        self.assertEqual((attributes_of(found["whole"]), found["whole"]["events"]), ({"a": 1}, []))
-        self.assertEqual(self.pipeline.counts().open_spans, 0)
+        self.assertEqual(attributes_of(found["whole"]), {"a": 1, "good": 1})
+        self.assertEqual(attributes_of(found["started"]), {"good": 1})
+        for thing in found["whole"]["events"] + found["whole"]["links"]:
+            self.assertEqual(attributes_of(thing), {"good": 1})
+        self.assertEqual(self.pipeline.left_out_attributes, 5 * len(self.WRONG) + 1)
+        self.assertEqual((self.pipeline.failed_calls, self.pipeline.counts().open_spans), (0, 0))
+
+    def test_each_key_is_said_once(self):
+        with self.assertLogs("otel_proved") as log:
+            for _ in range(3):
+                self.pipeline.start_span("a", attributes={"cart": b"x", "user": None}).end()
+        wanted = ["the attribute 'cart' is left out, since it is of the type bytes, not", "the attribute 'user' is"]
+        self.assertEqual([it for it, said in zip(wanted, log.output) if it in said], wanted)
+        self.assertEqual((len(log.output), self.pipeline.left_out_attributes), (2, 6))
+
+    def test_texts_with_lone_surrogates_are_replaced(self):
+        texts = {"key": "a\udc80b", "k\udfff": "x", "list": ["\ud800", "y"], "pair": "\ud83d\ude00"}
+        with self.pipeline.tracer("t\udc80", "v\udc80").span("n\udc80", attributes=texts) as span:
+            span.add_event("e\udc80")
+            span.set_status(StatusCode.ERROR, "s\udc80")
+        span = self.exported()["n\ufffd"]
+        wanted = {"key": "a\ufffdb", "k\ufffd": "x", "list": ["\ufffd", "y"], "pair": "\U0001f600"}
+        self.assertEqual(attributes_of(span), wanted)
+        names = span["scope"], span["events"][0]["name"], span["status"]["message"]
+        self.assertEqual(names, ("t\ufffd", "e\ufffd", "s\ufffd"))
+        self.assertEqual((self.pipeline.failed_calls, self.pipeline.left_out_attributes), (0, 0))
 
     def test_other_arguments(self):
         start = self.pipeline.start_span
-        self.assertRaises(TypeError, start, 5)
-        self.assertRaises(TypeError, start, "name", attributes=["key"])
-        self.assertRaises(TypeError, start, "name", parent="00-")
-        self.assertRaises(TypeError, start, "name", moment=1.5)
-        self.assertRaises(ValueError, start, "name", moment=-1)
-        self.assertRaises(ValueError, start, "name", moment=2**64)
-        self.assertRaises(ValueError, start, "name", kind=6)
-        with self.pipeline.span("name") as span:
-            self.assertRaises(ValueError, span.set_status, 3)
-            self.assertRaises(TypeError, span.add_link, "00-")
-            self.assertRaises(TypeError, span.record_exception, "text")
-            self.assertRaises(TypeError, span.end, "now")
-        self.assertEqual(list(self.exported()), ["name"])
+        wrong = [
+            dict(attributes=["key"]), dict(attributes=5), dict(parent="00-"), dict(moment=1.5), dict(moment=-1),
+            dict(moment=2**64), dict(kind=6), dict(kind=[]), dict(kind=None),
+        ]
+        for how in wrong:
+            start("started", **how).end()
+        self.assertEqual(self.pipeline.failed_calls, len(wrong))
+        self.assertIsInstance(self.pipeline.last_failure, BadArgument)
+        with self.pipeline.span(5) as span:
+            for call in (
+                lambda: span.set_status(3), lambda: span.set_status([]), lambda: span.add_link("00-"),
+                lambda: span.record_exception("text"), lambda: span.record_error(None),
+                lambda: span.set_attributes([1]), lambda: span.add_event("row", moment="now"), lambda: span.end("now"),
+            ):
+                before = self.pipeline.failed_calls
+                call()
+                self.assertEqual(self.pipeline.failed_calls, before + 1)
+        for name in (None, Odd("a"), b"bytes"):
+            start(name).end()
+        self.assertEqual(self.pipeline.counts().open_spans, 0)
+        self.assertEqual({"started", "5", "None", "b'bytes'"} - set(self.exported()), set())
+
+    def test_calls_without_a_pipeline(self):
+        span = current_span()
+        span.set_attribute("key", object())
+        span.set_attributes(5)
+        span.add_event(5, 5, 5)
+        span.add_link(5)
+        span.set_status(5)
+        span.record_error(5)
+        span.end("now")
+        with use_span(None), self.pipeline.span("root"):
+            pass
+        self.assertEqual(self.exported()["root"]["parentSpanId"], "")
 
 
 class Family(PipelineTest):
@@ -126,7 +179,7 @@ class Family(PipelineTest):
                 self.assertIs(current_span(), inner)
             self.assertIs(current_span(), outer)
             self.pipeline.start_span("root", parent=ROOT).end()
-        self.assertIsNone(current_span())
+        self.assertFalse(current_span().context.is_valid)
         self.assertEqual(inner.context.trace_id, outer.context.trace_id)
         self.assertEqual(self.parents(), {"outer": "", "inner": outer.context.span_id, "root": ""})
 
@@ -155,7 +208,7 @@ class Family(PipelineTest):
             for thread in threads:
                 thread.start()
                 thread.join()
-        self.assertEqual([it is None for it in found], [True, False])
+        self.assertEqual([it.context.is_valid for it in found], [False, True])
 
     def test_tasks_have_a_current_span_each(self):
         async def work(name):
@@ -202,7 +255,7 @@ class Ends(PipelineTest):
                     raise error
         found = self.exported()
         self.assertIn("cannot be made", found["mute"]["status"]["message"])
-        self.assertEqual(found["surrogate"]["status"]["message"], "\\udcff")
+        self.assertEqual(found["surrogate"]["status"]["message"], "\ufffd")
 
     def test_a_generator_that_is_closed_is_no_error(self):
         def rows():
@@ -215,6 +268,35 @@ class Ends(PipelineTest):
         contextvars.copy_context().run(generator.close)
         span = self.exported()["rows"]
         self.assertEqual((span["status"]["code"], span["events"]), (StatusCode.UNSET, []))
+
+    def test_a_program_that_ends_well_and_a_cancelled_task_are_no_errors(self):
+        async def cancelled():
+            with self.pipeline.span("cancelled"):
+                asyncio.current_task().cancel()
+                await asyncio.sleep(1)
+
+        with self.assertRaises(asyncio.CancelledError):
+            asyncio.run(cancelled())
+        for code in (0, None):
+            with self.assertRaises(SystemExit), self.pipeline.span(f"exit {code}"):
+                sys.exit(code)
+        with self.assertRaises(SystemExit), self.pipeline.span("exit 1"):
+            sys.exit(1)
+        found = self.exported()
+        codes = {name: (span["status"]["code"], len(span["events"])) for name, span in found.items()}
+        well = (StatusCode.UNSET, 0)
+        wanted = {"cancelled": well, "exit 0": well, "exit None": well, "exit 1": (StatusCode.ERROR, 1)}
+        self.assertEqual(codes, wanted)
+
+    def test_a_block_may_be_entered_again(self):
+        block = self.pipeline.span("again")
+        for _ in range(2):
+            with block as outer, block as inner:
+                self.assertIs(current_span(), inner)
+            self.assertFalse(outer.is_recording or inner.is_recording or current_span().is_recording)
+        self.assertEqual((self.pipeline.counts().open_spans, self.pipeline.failed_calls), (0, 0))
+        self.pipeline.flush()
+        self.assertEqual(b"".join(self.pipeline.drain()).count(b'"again"'), 4)
 
     def test_only_the_first_end_counts(self):
         with self.pipeline.span("once") as span:
@@ -243,7 +325,7 @@ class Ends(PipelineTest):
         self.setUp()
         with self.pipeline.span("dropped") as span:
             span.set_attribute("key", 1)
-            self.assertRaises(TypeError, span.set_attribute, "key", [1, 1.5])
+            span.set_attribute("key", [1, 1.5])
             self.assertFalse(span.is_recording or span.context.is_sampled)
         self.assertEqual((self.exported(), self.pipeline.failed_calls), ({}, 0))
 

@@ -82,7 +82,7 @@ class Requests(PipelineTest):
 
         parts = TracedApplication(application, self.pipeline)({"REQUEST_METHOD": "GET"}, lambda *_: None)
         next(parts)
-        self.assertIsNone(current_span())
+        self.assertFalse(current_span().context.is_valid)
         self.assertEqual(self.exported(), {})
         parts.close()
         parts.close()
