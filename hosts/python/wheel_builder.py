@@ -77,12 +77,17 @@ def files():
         if name.endswith(".py") or name == "py.typed":
             yield f"{PACKAGE}/{name}", bytes_of(folder, name)
     yield f"{PACKAGE}/{LIBRARY}", library()
-    facts = f"{PACKAGE}-{version()}.dist-info"
+    yield from facts()
+
+
+def facts():
+    """The same of what is said about the package."""
+    folder = f"{PACKAGE}-{version()}.dist-info"
     readme = bytes_of(HERE, "README.md").decode()
-    yield f"{facts}/METADATA", METADATA.format(version=version(), readme=readme).encode()
-    yield f"{facts}/WHEEL", WHEEL.format(tag=tag()).encode()
+    yield f"{folder}/METADATA", METADATA.format(version=version(), readme=readme).encode()
+    yield f"{folder}/WHEEL", WHEEL.format(tag=tag()).encode()
     for name in LICENCES:
-        yield f"{facts}/licenses/{name}", bytes_of(TOP, name)
+        yield f"{folder}/licenses/{name}", bytes_of(TOP, name)
 
 
 def record_row(path, content):
@@ -101,7 +106,17 @@ def write(archive, path, content):
 
 def build_wheel(wheel_directory, config_settings=None, metadata_directory=None):
     """Writes the wheel into a folder, and answers its name."""
-    found = list(files())
+    return write_wheel(wheel_directory, list(files()))
+
+
+def build_editable(wheel_directory, config_settings=None, metadata_directory=None):
+    """Writes a wheel that leads to this folder, for `pip install -e`. It has no library: that is found at its use."""
+    lead = f"{PACKAGE}.pth", f"{HERE}\n".encode()
+    return write_wheel(wheel_directory, [lead, *facts()])
+
+
+def write_wheel(wheel_directory, found):
+    """Writes a wheel of these files, and answers its name."""
     record = f"{PACKAGE}-{version()}.dist-info/RECORD"
     rows = "".join(record_row(*it) for it in found) + f"{record},,\n"
     name = f"{PACKAGE}-{version()}-{tag()}.whl"

@@ -42,6 +42,7 @@ class Settings(unittest.TestCase):
 
     def test_those_of_the_environment_but_the_sender_s(self):
         variables = {"OTEL_BOGUS": "1", "OTEL_EXPORTER_BOGUS": "1", "OTEL_LINES": "a\nb", "OTEL_BYTES": "\udcff"}
+        variables["OTEL_C_DIR"] = "/nowhere"
         with mock.patch.dict(os.environ, variables), Pipeline() as pipeline:
             self.assertEqual(pipeline.ignored_settings, ["OTEL_BYTES", "OTEL_LINES", "OTEL_BOGUS"])
 

@@ -1,6 +1,7 @@
 # SPDX-License-Identifier: Apache-2.0
 """The wheel: what is in it, that it works where it is unpacked, and what is said where the library is not there."""
 
+import glob
 import os
 import shutil
 import subprocess
@@ -48,6 +49,16 @@ class Wheel(unittest.TestCase):
         how = {"cwd": self.folder, "env": environment, "capture_output": True, "text": True}
         used = subprocess.run([sys.executable, "-c", USE], **how)
         self.assertEqual(used.stdout, f"1 {unpacked}/otel_proved/__init__.py\n", used.stderr)
+
+    def test_an_editable_install_leads_to_the_checkout(self):
+        words = ["install", "--no-index", "--no-build-isolation", "--no-deps", "-q", "--prefix", self.folder]
+        how = {"capture_output": True, "text": True, "env": {**os.environ, "PYTHONDONTWRITEBYTECODE": "1"}}
+        ran = subprocess.run([sys.executable, "-m", "pip", *words, "-e", PACKAGE_FOLDER], **how)
+        self.assertEqual(ran.returncode, 0, ran.stderr)
+        lead, = glob.glob(os.path.join(self.folder, "**", "otel_proved.pth"), recursive=True)
+        command = f"import site; site.addsitedir({os.path.dirname(lead)!r})\n{USE}"
+        used = subprocess.run([sys.executable, "-B", "-c", command], cwd=self.folder, **how)
+        self.assertEqual(used.stdout, f"1 {PACKAGE_FOLDER}/otel_proved/__init__.py\n", used.stderr)
 
     def test_without_the_library_it_says_so(self):
         ran = self.build(self.folder)
