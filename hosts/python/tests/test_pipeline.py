@@ -1,7 +1,9 @@
 # SPDX-License-Identifier: Apache-2.0
 """Pipelines: settings, threads, forks, and how they are closed."""
 
+import ctypes
 import gc
+import json
 import os
 import sys
 import threading
@@ -9,9 +11,10 @@ import traceback
 import unittest
 from unittest import mock
 
+import otel_proved
 from otel_proved import BadSetting, Closed, Failed, OtherProcess, Pipeline
 
-from .support import SHORT, Collector, PipelineTest, spans_in
+from .support import SHORT, Collector, PipelineTest, attributes_of, spans_in
 
 
 def in_child(work):
@@ -45,6 +48,21 @@ class Settings(unittest.TestCase):
         variables["OTEL_C_DIR"] = "/nowhere"
         with mock.patch.dict(os.environ, variables), Pipeline() as pipeline:
             self.assertEqual(pipeline.ignored_settings, ["OTEL_BYTES", "OTEL_LINES", "OTEL_BOGUS"])
+
+    def test_the_resource_says_what_the_sdk_is(self):
+        def said(pipeline):
+            pipeline.start_span("a").end()
+            resource = json.loads(pipeline.close()[0])["resourceSpans"][0]["resource"]
+            found = attributes_of(resource)
+            return [found[f"telemetry.sdk.{it}"] for it in ("name", "version", "language")], found
+
+        wanted = ["otel_proved", otel_proved.__version__, "python"]
+        self.assertEqual(said(Pipeline({}))[0], wanted)
+        for settings in ({"OTEL_RESOURCE_ATTRIBUTES": "a=b,telemetry.sdk.language=mine"},):
+            about, found = said(Pipeline(settings))
+            self.assertEqual((about, found["a"]), ([*wanted[:2], "mine"], "b"))
+            with mock.patch.dict(os.environ, settings):
+                self.assertEqual(said(Pipeline())[0], about)
 
     def test_what_cannot_be_a_line_is_an_error(self):
         for name, value in (("", "1"), ("OTEL=", "1"), ("OTEL\n", "1"), ("OTEL_A", "1\nOTEL_B=2")):
@@ -143,6 +161,23 @@ class Threads(PipelineTest):
 
 
 class Forks(PipelineTest):
+    def test_a_fork_that_only_the_child_hears_of(self):
+        """As a server that is no Python program makes one."""
+        self.pipeline.start_span("before")
+        drawn_next = self.drawn_next()
+        child = ctypes.PyDLL(None).fork()
+        if child == 0:
+            ctypes.pythonapi.PyOS_AfterFork_Child()
+            started = self.pipeline.start_span("in the child").context
+            os._exit(0 if started.trace_id != drawn_next and not self.pipeline.failed_calls else 1)
+        self.assertEqual(os.waitstatus_to_exitcode(os.waitpid(child, 0)[1]), 0)
+
+    def drawn_next(self):
+        """The trace id that the parent draws next by its seed."""
+        with Pipeline(self.settings, seed=7) as same:
+            same.start_span("before")
+            return same.start_span("next").context.trace_id
+
     def test_the_child_has_a_pipeline_of_its_own(self):
         self.pipeline.start_span("of the parent").end()
         with self.pipeline.span("before") as before:
