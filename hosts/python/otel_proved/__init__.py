@@ -21,6 +21,7 @@ from .errors import (
 )
 from ._native import Counts
 from .current import SpanBlock, current_span, use_span
+from .decorating import traced
 from .pipeline import Pipeline, Tracer
 from .propagation import extract, inject
 from .remote import Remote
@@ -60,5 +61,6 @@ __all__ = [
     "current_span",
     "extract",
     "inject",
+    "traced",
     "use_span",
 ]

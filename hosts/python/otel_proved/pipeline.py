@@ -7,6 +7,7 @@ import abc
 import contextlib
 import secrets
 import time
+import weakref
 from functools import partial
 from typing import Dict, List, Mapping, Optional, Protocol
 
@@ -117,6 +118,7 @@ class Pipeline(Starter, _fork.Renewed):
         #: The names of the settings that were ignored: unknown ones, and those whose value does not read.
         self.ignored_settings = [*refused, *self._handle.ignored_settings()]
         _fork.register(self)
+        _opened.append(weakref.ref(self, _opened.remove))
 
     def tracer(self, name: str, version: str = "", schema_url: str = "") -> Tracer:
         """Who starts the spans of a library."""
@@ -159,6 +161,11 @@ class Pipeline(Starter, _fork.Renewed):
     def follow(self, follower: Follower) -> None:
         """Has a follower work for this pipeline."""
         self._followers.append(follower)
+
+    @property
+    def is_closed(self) -> bool:
+        """Whether the pipeline was closed."""
+        return self._handle.is_closed
 
     @property
     def failed_calls(self) -> int:
@@ -215,7 +222,7 @@ class Pipeline(Starter, _fork.Renewed):
 
         Spans that are open are abandoned. From then on a start gives spans that record nothing.
         """
-        if self._handle.is_closed:
+        if self.is_closed:
             return []
         handle = self._live()
         for follower in self._followers:
@@ -246,6 +253,19 @@ class Pipeline(Starter, _fork.Renewed):
         """What a parent opened anew, and what it lost, is not the child's."""
         self._opened = {}
         self._seen_lost = 0
+
+
+# The pipelines, in the order in which they were opened.
+_opened: "List[weakref.ref[Pipeline]]" = []
+
+
+def latest_pipeline() -> Optional[Pipeline]:
+    """The pipeline that was opened last, of those that are not closed."""
+    for reference in reversed(_opened):
+        pipeline = reference()
+        if pipeline is not None and not pipeline.is_closed:
+            return pipeline
+    return None
 
 
 def _wake(followers: List[Follower]) -> None:
