@@ -20,6 +20,7 @@ from .errors import (
     UnknownStatus,
 )
 from ._native import Counts
+from .carried import baggage, use_baggage
 from .current import SpanBlock, current_span, use_span
 from .decorating import traced
 from .pipeline import Pipeline, Tracer
@@ -58,9 +59,11 @@ __all__ = [
     "StatusCode",
     "Tracer",
     "UnknownStatus",
+    "baggage",
     "current_span",
     "extract",
     "inject",
     "traced",
+    "use_baggage",
     "use_span",
 ]

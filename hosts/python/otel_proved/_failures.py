@@ -50,7 +50,7 @@ class Failures(_fork.Renewed):
         self._left_out.add()
         if key not in self._keys and len(self._keys) < _MOST_KEYS:
             self._keys.add(key)
-            warn("the attribute %s is left out, since it %s", key, why)
+            warn("%s is left out, since it %s", key, why)
 
     def after_fork_in_child(self) -> None:
         """The child counts its own."""

@@ -3,16 +3,19 @@
 
 from __future__ import annotations
 
+import functools
 import os
-from typing import List, Mapping, NamedTuple, Optional
+from typing import List, Mapping, NamedTuple, Optional, Tuple
 
 from ._values import utf8
 from .errors import BadSetting
 
 _OURS = b"OTEL_"
 _RESOURCE = b"OTEL_RESOURCE_ATTRIBUTES"
-# Of senders, and of what finds the library.
-_OF_OTHERS = (b"OTEL_EXPORTER_", b"OTEL_C_")
+PROPAGATORS = "OTEL_PROPAGATORS"
+# Of senders, of headers, and of what finds the library.
+_OF_OTHERS = (b"OTEL_EXPORTER_", b"OTEL_C_", b"OTEL_TRACES_EXPORTER", PROPAGATORS.encode())
+_HEADERS = {"tracecontext": ("traceparent", "tracestate"), "baggage": ("baggage",), "none": ()}
 
 
 class Settings(NamedTuple):
@@ -63,7 +66,26 @@ def _of_environment() -> Settings:
             lines.append(line)
         else:
             refused.append(os.fsdecode(name))
+    if propagators_of(os.environ.get(PROPAGATORS)).unknown:
+        refused.append(PROPAGATORS)
     return Settings(b"".join(lines), refused)
+
+
+class Propagators(NamedTuple):
+    """The headers that are written and read, and the names that say nothing here."""
+
+    headers: Tuple[str, ...]
+    unknown: Tuple[str, ...]
+
+
+@functools.lru_cache(maxsize=8)
+def propagators_of(listed: Optional[str]) -> Propagators:
+    """What a list of propagators stands for; all where it is not set."""
+    names = [it.strip() for it in (listed or "").split(",") if it.strip()] or ["tracecontext", "baggage"]
+    if "none" in names:
+        return Propagators((), ())
+    headers = dict.fromkeys(header for name in names for header in _HEADERS.get(name, ()))
+    return Propagators(tuple(headers), tuple(it for it in names if it not in _HEADERS))
 
 
 def _is_utf8(line: bytes) -> bool:

@@ -1,10 +1,17 @@
 # SPDX-License-Identifier: Apache-2.0
-"""Headers that hand a span on to another process: traceparent, tracestate and baggage."""
+"""Headers that hand a span on to another process: traceparent, tracestate and baggage.
+
+Which of them are written and read the environment's OTEL_PROPAGATORS says: `tracecontext,baggage`, or one of these, or
+`none`. Others are ignored, as `Pipeline.ignored_settings` says.
+"""
 
 from __future__ import annotations
 
+import os
 from typing import Any, Dict, Iterable, List, Mapping, MutableMapping, Optional, Tuple, Union
 
+from ._settings import PROPAGATORS, propagators_of
+from .carried import header_of
 from .current import current_span
 from .remote import CONTROL, FIELDS, Remote
 from .span import Span
@@ -15,9 +22,12 @@ Headers = Union[Mapping[Any, Any], Iterable[Tuple[Any, Any]]]
 def inject(headers: MutableMapping[str, str], span: Optional[Span] = None) -> None:
     """Writes the headers of a span, or else of the current one, in place of those that stand there.
 
-    Without a span it leaves all as it is.
+    Without a span and baggage it leaves all as it is.
     """
-    fields = list((span or current_span()).headers().fields())
+    span = span or current_span()
+    found = span.headers()
+    found = Remote(found.traceparent, found.tracestate, header_of(span, found.baggage))
+    fields = [(name, value) for name, value in found.fields() if name in _known()]
     for name in [it for it in headers if _field_of(it)] if fields else ():
         del headers[name]
     for name, value in fields:
@@ -34,11 +44,16 @@ def extract(headers: Headers) -> Remote:
     found: Dict[str, List[str]] = {name: [] for name in FIELDS}
     for name, value in _pairs_of(headers):
         field = _field_of(name)
-        if field:
+        if field and field in _known():
             found[field].append(_text_of(value))
     if len(found["traceparent"]) > 1:
         found["traceparent"] = []
     return Remote(**{name: ",".join(filter(None, values)) for name, values in found.items()})
+
+
+def _known() -> Tuple[str, ...]:
+    """The headers that are written and read."""
+    return propagators_of(os.environ.get(PROPAGATORS)).headers
 
 
 def _pairs_of(headers: Headers) -> List[Tuple[Any, Any]]:

@@ -125,6 +125,10 @@ class Span:
         except OtelError as error:
             self._failures.note(error)
 
+    def leave_out(self, key: str, why: str) -> None:
+        """Counts something that is left out, as an attribute is, and says so once a key."""
+        self._failures.leave_out(key, why)
+
     def set_attribute(self, key: str, value: Value) -> None:
         """Sets an attribute: a str, a bool, an int of 64 bits, a float, or a list of one of these."""
         encoded = encode(key, value, self._failures) if self._is_recording else None

@@ -2,9 +2,11 @@
 """Headers: what is written, and what is read."""
 
 import email.message
+import os
 import unittest
+from unittest import mock
 
-from otel_proved import Remote, extract, inject
+from otel_proved import Pipeline, Remote, baggage, extract, inject, use_baggage
 
 from .support import PipelineTest, attributes_of
 
@@ -44,6 +46,65 @@ class Extract(unittest.TestCase):
     def test_other_values_say_nothing(self):
         for headers in ({"traceparent": 5}, {"traceparent": None, 5: 5}, None, 5, [1], ["traceparent"]):
             self.assertEqual(extract(headers), Remote())
+
+
+class Baggage(PipelineTest):
+    parent = Remote(TRACEPARENT, "", "user=ad%20a;p=1,shop=x")
+
+    def test_what_came_along_is_read(self):
+        self.assertEqual(baggage(), {})
+        with self.pipeline.span("here", parent=self.parent):
+            self.assertEqual(baggage(), {"user": "ad a", "shop": "x"})
+            with self.pipeline.span("inner"):
+                self.assertEqual(baggage(), {"user": "ad a", "shop": "x"})
+
+    def test_what_is_set_goes_on_for_a_block(self):
+        with self.pipeline.span("here", parent=self.parent):
+            with use_baggage({"cart": "é,;=%", "shop": None}), use_baggage({"more": ""}):
+                headers = {}
+                inject(headers)
+                self.assertEqual(baggage(), {"user": "ad a", "cart": "é,;=%", "more": ""})
+            self.assertEqual(headers["baggage"], "user=ad%20a;p=1,cart=%C3%A9%2C%3B=%25,more=")
+            self.assertEqual(baggage(), {"user": "ad a", "shop": "x"})
+        with self.pipeline.span("there", parent=extract(headers)):
+            self.assertEqual(baggage(), {"user": "ad a", "cart": "é,;=%", "more": ""})
+
+    def test_without_a_span_baggage_goes_on_alone(self):
+        headers = {}
+        with use_baggage({"user": "ada"}):
+            inject(headers)
+        self.assertEqual(headers, {"baggage": "user=ada"})
+
+    def test_what_is_no_baggage_is_left_out_and_counted(self):
+        with self.pipeline.span("here"), use_baggage({"a b": "1", "": "2", 5: "3", "x": 4, "long": "v" * 9000, "y": "1"}):
+            headers = {}
+            inject(headers)
+        self.assertEqual((headers["baggage"], self.pipeline.left_out_attributes), ("y=1", 5))
+        with use_baggage(5):
+            self.assertEqual(baggage(), {})
+
+
+class Propagators(PipelineTest):
+    all = {"traceparent": TRACEPARENT, "tracestate": "a=1", "baggage": "user=ada"}
+
+    def with_setting(self, value):
+        """The names of the headers that are written and read, and whether the setting is named as ignored."""
+        with mock.patch.dict(os.environ, {"OTEL_PROPAGATORS": value}), Pipeline(None) as pipeline:
+            written = {}
+            with pipeline.span("here", parent=Remote(**self.all)):
+                inject(written)
+            read = extract(self.all)
+            self.assertEqual(set(written), {it for it in self.all if getattr(read, it)})
+            return set(written), pipeline.ignored_settings
+
+    def test_the_environment_says_which(self):
+        trace = {"traceparent", "tracestate"}
+        for value in ("", "tracecontext,baggage", " baggage , tracecontext "):
+            self.assertEqual(self.with_setting(value), ({*trace, "baggage"}, []))
+        self.assertEqual(self.with_setting("tracecontext"), (trace, []))
+        self.assertEqual(self.with_setting("baggage"), ({"baggage"}, []))
+        self.assertEqual(self.with_setting("none"), (set(), []))
+        self.assertEqual(self.with_setting("b3,tracecontext"), (trace, ["OTEL_PROPAGATORS"]))
 
 
 class Through(PipelineTest):
