@@ -5,17 +5,14 @@ from __future__ import annotations
 
 from typing import Any, Callable, Dict, Iterable, Iterator, List, Optional
 
+from ._requests import end_request, start_request
 from .current import use_span
 from .pipeline import Starter
-from .propagation import extract
 from .remote import FIELDS
-from .span import Kind, Span, StatusCode
+from .span import Span
 
 Environment = Dict[str, Any]
 Application = Callable[[Environment, Callable[..., Any]], Iterable[bytes]]
-
-_METHODS = {"CONNECT", "DELETE", "GET", "HEAD", "OPTIONS", "PATCH", "POST", "PUT", "TRACE"}
-_FIRST_SERVER_ERROR = 500
 
 
 class TracedApplication:
@@ -49,28 +46,16 @@ class TracedApplication:
 
 
 def _start(starter: Starter, environment: Environment) -> Span:
-    method = environment.get("REQUEST_METHOD", "")
     path = environment.get("SCRIPT_NAME", "") + environment.get("PATH_INFO", "")
     # WSGI hands bytes on as Latin-1.
-    attributes = {"url.path": path.encode("latin-1", "replace").decode("utf-8", "replace")}
-    if method in _METHODS:
-        attributes["http.request.method"] = method
-    else:
-        # A stranger may send any method, and names of spans are to be few.
-        attributes["http.request.method"] = "_OTHER"
-        attributes["http.request.method_original"] = method.encode("ascii", "replace").decode()
+    path = path.encode("latin-1", "replace").decode("utf-8", "replace")
     headers = {name: environment.get(f"HTTP_{name.upper()}", "") for name in FIELDS}
-    return starter.start_span(method if method in _METHODS else "HTTP", Kind.SERVER, attributes, extract(headers))
+    return start_request(starter, environment.get("REQUEST_METHOD", ""), path, headers)
 
 
 def _end(span: Span, statuses: List[str]) -> None:
-    """Says how the response went, by the last of its statuses, and ends the span."""
-    code = _code_of(statuses[-1]) if statuses else None
-    if code is not None:
-        span.set_attribute("http.response.status_code", code)
-        if code >= _FIRST_SERVER_ERROR:
-            span.set_status(StatusCode.ERROR)
-    span.end()
+    """Ends the span by the last of the response's statuses."""
+    end_request(span, _code_of(statuses[-1]) if statuses else None)
 
 
 def _code_of(status: str) -> Optional[int]:
