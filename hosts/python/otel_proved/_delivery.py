@@ -126,7 +126,7 @@ class Delivery:
         if answer.outcome is Outcome.LATER:
             said = "spans that were not sent to %s, which is tried again: %d (%s)"
             self._notices.warn("later", said, self._goal, line.spans, answer.why)
-        elif answer.outcome is Outcome.REFUSED or answer.rejected_spans:
+        elif answer.rejected_spans or (answer.outcome is Outcome.REFUSED and answer.why):
             said = "spans that %s did not take, and that are lost: %d (%s)"
             lost = line.spans if answer.outcome is Outcome.REFUSED else answer.rejected_spans
             self._notices.warn("refused", said, self._goal, lost, answer.why)

@@ -5,10 +5,12 @@ from __future__ import annotations
 
 import os
 import re
+import ssl
 import urllib.parse
 from dataclasses import dataclass
 from typing import Dict, List, Mapping, Optional, Tuple
 
+from . import _security
 from .errors import BadEndpoint
 
 PATH = "/v1/traces"
@@ -18,6 +20,7 @@ _TRACES_ENDPOINT = "OTEL_EXPORTER_OTLP_TRACES_ENDPOINT"
 # The one for traces goes first.
 _HEADERS = ("OTEL_EXPORTER_OTLP_TRACES_HEADERS", "OTEL_EXPORTER_OTLP_HEADERS")
 _TIMEOUT = ("OTEL_EXPORTER_OTLP_TRACES_TIMEOUT", "OTEL_EXPORTER_OTLP_TIMEOUT")
+_COMPRESSION = ("OTEL_EXPORTER_OTLP_TRACES_COMPRESSION", "OTEL_EXPORTER_OTLP_COMPRESSION")
 _PROTOCOL = ("OTEL_EXPORTER_OTLP_TRACES_PROTOCOL", "OTEL_EXPORTER_OTLP_PROTOCOL")
 _OF_TRACES = re.compile("OTEL_EXPORTER_OTLP_(?!METRICS_|LOGS_)")
 _DEFAULT_SECONDS = 10.0
@@ -27,16 +30,22 @@ _FIELD_VALUE = re.compile("[\t\x20-\x7e]*")
 
 @dataclass(frozen=True)
 class Destination:
-    """A collector: its URL, headers more, how many seconds it may take, and which variables were ignored."""
+    """A collector: its URL, headers more, how many seconds it may take, and which variables were ignored; whether what
+    is posted is compressed by gzip, and whom https trusts, where that is not the system's matter."""
 
     url: str
     headers: Dict[str, str]
     timeout: float
     ignored_settings: List[str]
+    is_compressed: bool = False
+    ssl_context: Optional[ssl.SSLContext] = None
 
 
 def destination_of(
-    endpoint: Optional[str], headers: Optional[Mapping[str, str]], timeout: Optional[float]
+    endpoint: Optional[str],
+    headers: Optional[Mapping[str, str]],
+    timeout: Optional[float],
+    ssl_context: Optional[ssl.SSLContext] = None,
 ) -> Destination:
     """The destination by what is given, else by the environment, else the collector at this machine."""
     ignored = _unknown()
@@ -45,7 +54,10 @@ def destination_of(
         if not _TOKEN.fullmatch(name) or not _FIELD_VALUE.fullmatch(value):
             raise BadEndpoint(f"the header {name!a} for the collector cannot be sent")
     seconds = timeout if timeout is not None else _timeout_of_environment(ignored)
-    return Destination(_url(endpoint), found, seconds, ignored)
+    url, is_compressed = _url(endpoint), _compression_of_environment(ignored)
+    if ssl_context is None and url.startswith("https:"):
+        ssl_context = _security.context_of_environment()
+    return Destination(url, found, seconds, ignored, is_compressed, ssl_context)
 
 
 def _url(endpoint: Optional[str]) -> str:
@@ -109,9 +121,16 @@ def _timeout_of_environment(ignored: List[str]) -> float:
     return _DEFAULT_SECONDS
 
 
+def _compression_of_environment(ignored: List[str]) -> bool:
+    name, how = _first_set(_COMPRESSION)
+    if how not in ("", "none", "gzip"):
+        ignored.append(name)
+    return how == "gzip"
+
+
 def _unknown() -> List[str]:
     """The variables for traces that are set and not read here. Of protocols there is one, JSON over HTTP."""
-    read = {_ENDPOINT, _TRACES_ENDPOINT, *_HEADERS, *_TIMEOUT}
+    read = {_ENDPOINT, _TRACES_ENDPOINT, *_HEADERS, *_TIMEOUT, *_COMPRESSION, *_security.VARIABLES}
     name, protocol = _first_set(_PROTOCOL)
     if protocol == "http/json":
         read.add(name)

@@ -6,6 +6,7 @@ from __future__ import annotations
 import datetime
 import email.utils
 import enum
+import gzip
 import http.client
 import json
 import urllib.error
@@ -51,11 +52,15 @@ class Poster:
     def __init__(self, destination: Destination, agent: str) -> None:
         self._destination = destination
         self._headers = {"User-Agent": agent, **destination.headers, "Content-Type": "application/json"}
-        self._opener = urllib.request.build_opener(_Stays)
+        if destination.is_compressed:
+            self._headers["Content-Encoding"] = "gzip"
+        trusting = [urllib.request.HTTPSHandler(context=destination.ssl_context)] if destination.ssl_context else []
+        self._opener = urllib.request.build_opener(_Stays, *trusting)
 
     def post(self, line: bytes) -> Answer:
         """Posts a line. One whose answer did not come may have been taken, and comes twice when it is sent again."""
-        request = urllib.request.Request(self._destination.url, line, self._headers)
+        body = gzip.compress(line, mtime=0) if self._destination.is_compressed else line
+        request = urllib.request.Request(self._destination.url, body, self._headers)
         try:
             with self._opener.open(request, timeout=self._destination.timeout) as response:
                 return _taken(_body_of(response))

@@ -5,14 +5,15 @@ from __future__ import annotations
 
 import atexit
 import queue
+import ssl
 import threading
 from typing import List, Mapping, Optional, Union
 
 from . import _fork
 from ._delivery import Delivery
 from ._destination import destination_of
+from ._exporters import exporter_of
 from ._notices import Notices
-from ._posting import Poster
 from .errors import OtelError
 from .pipeline import Pipeline
 
@@ -43,6 +44,9 @@ _Order = Union[_Flush, _Turn]
 class Sender(_fork.Renewed):
     """Sends a pipeline's lines until it is closed, at the latest when the program ends.
 
+    Without an endpoint OTEL_TRACES_EXPORTER says where they go: `otlp`, which is meant below, `console`, which is
+    standard output, both, or `none`.
+
     At an interval, in seconds, it exports what is due and posts the lines. The endpoint is a URL, to which /v1/traces
     is added where it has no path; without one the environment's OTEL_EXPORTER_OTLP_* variables say it. A line is tried
     again, after growing waits, where there is no answer and at the statuses 429, 502, 503 and 504. Lines that another
@@ -60,13 +64,13 @@ class Sender(_fork.Renewed):
         timeout: Optional[float] = None,
         max_spans: int = 50_000,
         exit_timeout: float = 5.0,
+        ssl_context: Optional[ssl.SSLContext] = None,
     ) -> None:
-        destination = destination_of(endpoint, headers, timeout)
+        destination = destination_of(endpoint, headers, timeout, ssl_context)
         self._check(interval=interval, timeout=destination.timeout, max_spans=max_spans)
-        #: The environment's OTEL_EXPORTER_OTLP_* variables that were ignored.
-        self.ignored_settings: List[str] = destination.ignored_settings
-        self.endpoint = destination.url
-        self._poster = Poster(destination, _AGENT)
+        self._poster, self.endpoint, ignored = exporter_of(destination, _AGENT, endpoint is not None)
+        #: The environment's OTEL_EXPORTER_OTLP_* variables, and OTEL_TRACES_EXPORTER, where they were ignored.
+        self.ignored_settings: List[str] = ignored
         self._pipeline = pipeline
         self._interval = interval
         self._most_spans = max_spans

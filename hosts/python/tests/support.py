@@ -2,6 +2,7 @@
 """What the tests share: pipelines that are closed after a test, their spans, and a stand-in for a collector."""
 
 import contextlib
+import gzip
 import json
 import os
 import threading
@@ -67,15 +68,20 @@ class PipelineTest(unittest.TestCase):
 class Collector(ThreadingHTTPServer):
     """Answers each request by the next of its scripted answers, and then by 200; notes bodies and headers."""
 
-    def __init__(self, answers=(), port=0):
+    def __init__(self, answers=(), port=0, ssl_context=None):
         super().__init__(("127.0.0.1", port), CollectorHandler)
+        if ssl_context is not None:
+            self.socket = ssl_context.wrap_socket(self.socket, server_side=True)
         self.answers = list(answers)
         self.came = []
         self.spans = {}
-        self.url = f"http://127.0.0.1:{self.server_port}"
+        self.url = f"http{'s' if ssl_context else ''}://127.0.0.1:{self.server_port}"
         self.lock = threading.Lock()
         self.serving = threading.Thread(target=self.serve_forever, args=(SHORT,))
         self.serving.start()
+
+    def handle_error(self, *_):
+        """Says nothing of clients that go away."""
 
     def stop(self):
         """Ends it."""
@@ -89,6 +95,8 @@ class CollectorHandler(BaseHTTPRequestHandler):
 
     def do_POST(self):
         body = self.rfile.read(int(self.headers["Content-Length"]))
+        if self.headers["Content-Encoding"] == "gzip":
+            body = gzip.decompress(body)
         with self.server.lock:
             self.server.came.append((self.path, self.headers, body))
             status, headers, text = self.server.answers.pop(0) if self.server.answers else (200, {}, b"{}")

@@ -286,9 +286,9 @@ class Goes(unittest.TestCase):
         self.assertEqual((found.headers, found.timeout), ({"y": "2"}, 0.001))
 
     def test_variables_that_are_ignored_are_named(self):
-        found = self.destination(HEADERS="x", TIMEOUT="1s", PROTOCOL="grpc", COMPRESSION="gzip", LOGS_TIMEOUT="1")
-        names = ["OTEL_EXPORTER_OTLP_COMPRESSION", "OTEL_EXPORTER_OTLP_PROTOCOL", "OTEL_EXPORTER_OTLP_HEADERS"]
-        self.assertEqual(found.ignored_settings, [*names, "OTEL_EXPORTER_OTLP_TIMEOUT"])
+        found = self.destination(HEADERS="x", TIMEOUT="1s", PROTOCOL="grpc", COMPRESSION="br", LOGS_TIMEOUT="1")
+        names = ["PROTOCOL", "HEADERS", "TIMEOUT", "COMPRESSION"]
+        self.assertEqual(found.ignored_settings, [f"OTEL_EXPORTER_OTLP_{it}" for it in names])
         self.assertEqual((found.headers, found.timeout), ({}, 10))
 
     def test_numbers_that_are_none(self):
