@@ -73,7 +73,7 @@ class Started:
         # Of the library's answers. A key of 0 is none.
         self.key_cell = ctypes.c_uint64()
         self.found = _declarations.Identity()
-        self._watch = handle.watch(self)
+        self._watch: Optional[Watch] = handle.watch(self)
 
     @property
     def key(self) -> int:
@@ -93,6 +93,8 @@ class Started:
         self.handle.queue(finish)
         self.is_over = True
         self.handle.unwatch(self._watch)
+        # It would be heard of also where only the span itself has it.
+        self._watch = None
         self.handle.carry_out()
 
 
@@ -168,30 +170,38 @@ class Handle:
         """A call that is still to be made."""
         return partial(self._functions[name], self._address, *arguments)
 
-    def _take(self, calls: Sequence[Call], before: Sequence[Call] = (), after: Sequence[Call] = ()) -> int:
+    def _take(self, take: Callable[..., int], *calls: Any) -> int:
         """Has a turn, and carries out what waits for one: before it, and what came to wait in the middle of it."""
         if self.is_foreign:
             raise OtherProcess("the span was started before a fork, in the parent process")
-        self.carry_out()
-        try:
-            return self._turns.take(calls, before, after)
-        finally:
+        if self._queue or self._gone:
             self.carry_out()
+        try:
+            return take(*calls)
+        finally:
+            if self._queue or self._gone:
+                self.carry_out()
+
+    def _status(self, name: str, *arguments: Any) -> int:
+        return self._take(self._turns.take_one, partial(self._functions[name], self._address, *arguments))
 
     def _do(self, name: str, *arguments: Any) -> None:
-        _native.check(name, self._take([self._call(name, *arguments)]))
+        _native.check(name, self._status(name, *arguments))
 
     def _do_with(self, attributes: Sequence[Encoded], name: str, *calls: Call) -> None:
-        """Gathers attributes for the first of some calls. What was gathered is forgotten before that and after it."""
-        forget = [self._call("otel_set_attributes", NO_SPAN)]
+        """Gathers attributes for the first of some calls. What was gathered before is forgotten, and what nobody took."""
+        forget = self._call("otel_set_attributes", NO_SPAN)
         gather = [self._call(f"otel_with_{form}", *arguments) for form, arguments in attributes]
-        _native.check(name, self._take([*gather, *calls], forget, forget if gather else ()))
+        status = self._take(self._turns.take, [*gather, *calls], forget)
+        if status != _native.OK and gather:
+            self._turns.take_one(forget)
+        _native.check(name, status)
 
     def _read(self, name: str, *arguments: Any) -> bytes:
         length, wanted = ctypes.c_size_t(), _ROOM
         while True:
             room = ctypes.create_string_buffer(wanted)
-            status = self._take([self._call(name, *arguments, room, wanted, ctypes.byref(length))])
+            status = self._status(name, *arguments, room, wanted, ctypes.byref(length))
             if status != _native.BUFFER_TOO_SMALL:
                 _native.check(name, status)
                 return ctypes.string_at(room, length.value)
@@ -243,9 +253,10 @@ class Handle:
         self._watches.add(watch)
         return watch
 
-    def unwatch(self, watch: Watch) -> None:
+    def unwatch(self, watch: Optional[Watch]) -> None:
         """Has it no more."""
-        self._watches.discard(watch)
+        if watch is not None:
+            self._watches.discard(watch)
 
     def queue(self, finish: Finish) -> None:
         """Has a span's end carried out before the next call. It waits for no other call."""
@@ -256,7 +267,7 @@ class Handle:
 
         Each stays in the queue until it is done, so that an exception loses none. A second time nothing comes of it.
         """
-        while (self._queue or self._gone) and not self._turns.is_mine:
+        while (self._queue or self._gone) and not self._turns.is_mine():
             finish, watch = _first(self._queue), _first(self._gone)
             if finish is not None:
                 self._settle(finish)
@@ -269,20 +280,23 @@ class Handle:
     def _settle(self, finish: Finish) -> None:
         if self.is_foreign:
             return self._note(finish, OtherProcess("the span was started before a fork, in the parent process"))
-        abandon = self._call(_ABANDON, finish.key)
-        end = self._call(_END, finish.key, *finish.moment) if finish.how == _END else abandon
-        status = self._turns.take([end])
-        if status == _native.OK and finish.how == _FORGET:
+        key, how, moment = finish
+        status = self._turns.take_one(self._call(_END if how == _END else _ABANDON, key, *moment))
+        if status == _native.OK:
+            return self._count(how)
+        if status == _native.NO_SUCH_SPAN:
+            return
+        self._note(finish, _native.error_of(how, status))
+        if how == _END and self._turns.take_one(self._call(_ABANDON, key)) != _native.NO_SUCH_SPAN:
+            self._lost.add()
+
+    def _count(self, how: str) -> None:
+        if how == _FORGET:
             self._forgotten.add()
-        if status == _native.OK and finish.how == _END:
+        elif how == _END:
             self._ended.add()
             if self._ended.number % _ENDS_TO_WAKE == 0:
                 self._wake()
-        if status in (_native.OK, _native.NO_SUCH_SPAN):
-            return
-        self._note(finish, _native.error_of(finish.how, status))
-        if finish.how == _END and self._turns.take([abandon]) != _native.NO_SUCH_SPAN:
-            self._lost.add()
 
     def _note(self, finish: Finish, error: OtelError) -> None:
         if finish.how != _FORGET:
@@ -319,7 +333,7 @@ class Handle:
         """Shuts down and lets go of all but the lines that nobody drained, which it answers."""
         self.is_shut_down = True
         # One that was shut down before answers that it failed; what an export lost is counted.
-        self._take([self._call("otel_shutdown")])
+        self._status("otel_shutdown")
         lines = self._read("otel_drain")
         self._do("otel_close")
         self.is_closed = True

@@ -25,26 +25,29 @@ class Turns:
 
     def __init__(self) -> None:
         self._lock: Any = threading.RLock()
+        #: Whether the code that asks runs in the middle of a turn of its own thread.
+        self.is_mine: Callable[[], bool] = self._lock._is_owned
 
-    @property
-    def is_mine(self) -> bool:
-        """Whether this code runs in the middle of a turn of its own thread."""
-        return self._lock._is_owned()  # type: ignore[no-any-return]
-
-    def take(self, calls: Iterable[Call], before: Sequence[Call] = (), after: Sequence[Call] = ()) -> int:
+    def take(self, calls: Iterable[Call], before: Call) -> int:
         """Makes calls until one answers another status than 0, and answers that; 0 where none does.
 
-        What stands before and after is called in the same turn whatever they answer. Busy in the middle of a turn.
+        In the same turn another one is made before them, whatever that answers. Busy in the middle of a turn.
         """
-        if self.is_mine:
-            raise Busy("a call came in the middle of another one by the same thread")
         first_failure = partial(next, filter(None, map(_make, calls)), 0)
-        steps = (self._lock.acquire, *before, first_failure, *after, self._lock.release)
+        return self._made((self._lock.acquire, before, first_failure, self._lock.release), 2)
+
+    def take_one(self, call: Call) -> int:
+        """Makes a call, and answers its status. Busy in the middle of a turn."""
+        return self._made((self._lock.acquire, call, self._lock.release), 1)
+
+    def _made(self, steps: Sequence[Call], answer: int) -> int:
+        if self.is_mine():
+            raise Busy("a call came in the middle of another one by the same thread")
         try:
-            return tuple(map(_make, steps))[1 + len(before)]  # type: ignore[no-any-return]
+            return tuple(map(_make, steps))[answer]  # type: ignore[no-any-return]
         except BaseException:
             # A signal that came while the lock was waited for, or else no memory for the steps.
-            if self.is_mine:
+            if self.is_mine():
                 self._lock.release()
             raise
 
@@ -54,5 +57,5 @@ class Turns:
 
     def let_go(self) -> None:
         """Lets turns begin again, where they were held."""
-        if self.is_mine:
+        if self.is_mine():
             self._lock.release()

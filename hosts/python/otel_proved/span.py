@@ -254,6 +254,8 @@ _Named = TypeVar("_Named", bound=enum.IntEnum)
 
 def member_of(kind: Type[_Named], value: object, failures: Failures) -> Optional[_Named]:
     """The member that a value stands for; None where it stands for none, which is counted."""
+    if isinstance(value, kind):
+        return value
     found = next((it for it in kind if it == value), None) if isinstance(value, int) else None
     if found is None:
         failures.refuse(f"it is of the type {type(value).__name__}, and no {kind.__name__}")

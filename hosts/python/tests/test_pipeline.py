@@ -12,7 +12,7 @@ import unittest
 from unittest import mock
 
 import otel_proved
-from otel_proved import BadSetting, Closed, Failed, OtherProcess, Pipeline
+from otel_proved import BadSetting, Closed, Failed, OtherProcess, Pipeline, _fork
 
 from .support import SHORT, Collector, PipelineTest, attributes_of, spans_in
 
@@ -167,7 +167,8 @@ class Forks(PipelineTest):
         drawn_next = self.drawn_next()
         child = ctypes.PyDLL(None).fork()
         if child == 0:
-            ctypes.pythonapi.PyOS_AfterFork_Child()
+            # What PyOS_AfterFork_Child calls; the whole of it ends a process of Python 3.13 that heard of no fork.
+            _fork._after_in_child()
             started = self.pipeline.start_span("in the child").context
             os._exit(0 if started.trace_id != drawn_next and not self.pipeline.failed_calls else 1)
         self.assertEqual(os.waitstatus_to_exitcode(os.waitpid(child, 0)[1]), 0)
