@@ -131,6 +131,10 @@ class Pipeline(Starter, _fork.Renewed):
         except OtelError as error:
             self._failures.note(error)
             return UnstartedSpan(parent, self._failures)
+        if not started.identity.trace_id:
+            # After a shutdown the library starts nobody: the parent is passed on, as by an SDK that is disabled.
+            started.finish("otel_abandon")
+            return UnstartedSpan(parent, self._failures)
         return Span(started, origin_of(parent), self._failures)
 
     def _started(self, handle: Handle, beginning: Beginning, parent: Parent) -> Started:

@@ -12,7 +12,7 @@ import unittest
 from unittest import mock
 
 import otel_proved
-from otel_proved import BadSetting, Closed, Failed, OtherProcess, Pipeline, _fork
+from otel_proved import ROOT, BadSetting, Closed, Failed, OtherProcess, Pipeline, Remote, _fork
 
 from .support import SHORT, Collector, PipelineTest, attributes_of, spans_in
 
@@ -110,6 +110,18 @@ class Closing(PipelineTest):
         self.assertRaises(Failed, self.pipeline.shutdown)
         self.assertEqual(list(spans_in(self.pipeline.drain())), ["before"])
         self.assertEqual(self.pipeline.counts().open_spans, 0)
+
+    def test_after_a_shutdown_a_parent_is_passed_on(self):
+        remote = Remote("00-0af7651916cd43dd8448eb211c80319c-00f067aa0ba902b7-01", "a=1", "user=ada")
+        parent = self.pipeline.start_span("before")
+        self.pipeline.shutdown()
+        for given, wanted in ((remote, remote), (parent, parent.as_remote()), (ROOT, Remote())):
+            span = self.pipeline.start_span("after", parent=given)
+            child = self.pipeline.start_span("child", parent=span)
+            self.assertEqual((span.headers(), child.headers()), (wanted, wanted))
+            self.assertFalse(span.is_recording or child.is_recording)
+        parent.end()
+        self.assertEqual((self.pipeline.counts().open_spans, self.pipeline.failed_calls), (0, 0))
 
     def test_a_pipeline_that_is_forgotten_is_closed(self):
         pipeline = Pipeline({})
