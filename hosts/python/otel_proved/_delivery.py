@@ -33,6 +33,7 @@ class Delivery:
         self._notices = notices
         self._changed = threading.Condition()
         self._replies: List["queue.SimpleQueue[bool]"] = []
+        self._is_started = False
         self._is_closed = False
         self._next_try = 0.0
         self.outbox = Outbox(most_spans)
@@ -42,8 +43,10 @@ class Delivery:
         self.last_failure = ""
 
     def start(self) -> None:
-        """Starts the thread."""
-        threading.Thread(target=self._work, name="otel_proved.Sender (posts)", daemon=True).start()
+        """Starts the thread, where it has not started. RuntimeError where the system gives none."""
+        if not self._is_started:
+            threading.Thread(target=self._work, name="otel_proved.Sender (posts)", daemon=True).start()
+            self._is_started = True
 
     def put(self, lines: List[bytes]) -> None:
         """Takes lines in. Where there are too many, the oldest are given up."""

@@ -24,7 +24,7 @@ class Exporter(NamedTuple):
 
 
 def exporter_of(destination: Destination, agent: str, is_given: bool) -> Exporter:
-    """The exporter that the environment names. Where an endpoint is given, or none is named, it posts to a collector."""
+    """The exporter that the environment names; to a collector where an endpoint is given, or none is named."""
     ignored = list(destination.ignored_settings)
     listed = "" if is_given else os.environ.get(_VARIABLE, "")
     names = [it.strip() for it in listed.split(",") if it.strip()]

@@ -189,7 +189,7 @@ class Handle:
         _native.check(name, self._status(name, *arguments))
 
     def _do_with(self, attributes: Sequence[Encoded], name: str, *calls: Call) -> None:
-        """Gathers attributes for the first of some calls. What was gathered before is forgotten, and what nobody took."""
+        """Gathers attributes for the first of some calls. Others that were gathered are forgotten, before and after."""
         forget = self._call("otel_set_attributes", NO_SPAN)
         gather = [self._call(f"otel_with_{form}", *arguments) for form, arguments in attributes]
         status = self._take(self._turns.take, [*gather, *calls], forget)

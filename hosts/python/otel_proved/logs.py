@@ -1,5 +1,5 @@
 # SPDX-License-Identifier: Apache-2.0
-"""The current span's ids in the records of `logging`, under the names that OpenTelemetry's instrumentation gives them."""
+"""The current span's ids in the records of `logging`, under the names of OpenTelemetry's instrumentation."""
 
 from __future__ import annotations
 
@@ -9,8 +9,10 @@ from .current import current_span
 
 
 class TraceIds(logging.Filter):
-    """Lets each record pass, with what names the current span: `otelTraceID` and `otelSpanID`, which are `0` where there
-    is none, and `otelTraceSampled`. Add one to a handler, and say the names in its format."""
+    """Lets each record pass, with what names the current span. Add one to a handler, and say the names in its format.
+
+    They are `otelTraceID` and `otelSpanID`, which are `0` where there is none, and `otelTraceSampled`, a bool.
+    """
 
     def filter(self, record: logging.LogRecord) -> bool:
         """Names the current span in a record."""

@@ -28,6 +28,8 @@ def inject(headers: MutableMapping[str, str], span: Optional[Span] = None) -> No
     found = span.headers()
     found = Remote(found.traceparent, found.tracestate, header_of(span, found.baggage))
     fields = [(name, value) for name, value in found.fields() if name in _known()]
+    if not (hasattr(headers, "keys") and hasattr(headers, "__setitem__")):
+        return span.refuse(f"headers are written into a mapping, not into {type(headers).__name__}")
     for name in [it for it in headers if _field_of(it)] if fields else ():
         del headers[name]
     for name, value in fields:

@@ -177,6 +177,7 @@ class Sender(_fork.Renewed):
             return
         try:
             words = {"args": (self._orders,), "name": "otel_proved.Sender", "daemon": True}
+            self._delivery.start()
             self._thread = threading.Thread(target=self._work, **words)  # type: ignore[arg-type]
             self._thread.start()
         except BaseException:
@@ -191,7 +192,6 @@ class Sender(_fork.Renewed):
         self._delivery.last_failure = why
 
     def _work(self, orders: "queue.SimpleQueue[_Order]") -> None:
-        self._delivery.start()
         while True:
             order = self._next_order(orders)
             if isinstance(order, _Flush):

@@ -125,6 +125,10 @@ class Span:
         except OtelError as error:
             self._failures.note(error)
 
+    def refuse(self, why: str) -> None:
+        """Counts a wrong argument of a call that is for this span."""
+        self._failures.refuse(why)
+
     def leave_out(self, key: str, why: str) -> None:
         """Counts something that is left out, as an attribute is, and says so once a key."""
         self._failures.leave_out(key, why)

@@ -76,7 +76,8 @@ class Baggage(PipelineTest):
         self.assertEqual(headers, {"baggage": "user=ada"})
 
     def test_what_is_no_baggage_is_left_out_and_counted(self):
-        with self.pipeline.span("here"), use_baggage({"a b": "1", "": "2", 5: "3", "x": 4, "long": "v" * 9000, "y": "1"}):
+        entries = {"a b": "1", "": "2", 5: "3", "x": 4, "long": "v" * 9000, "y": "1"}
+        with self.pipeline.span("here"), use_baggage(entries):
             headers = {}
             inject(headers)
         self.assertEqual((headers["baggage"], self.pipeline.left_out_attributes), ("y=1", 5))
@@ -136,6 +137,12 @@ class Through(PipelineTest):
             inject(message, span)
         self.assertEqual(headers, {"traceparent": span.context.traceparent, "Host": "here"})
         self.assertEqual(message.items(), [("Host", "here"), ("traceparent", span.context.traceparent)])
+
+    def test_what_takes_no_headers_is_counted(self):
+        with self.pipeline.span("here"):
+            for headers in (None, 5, [], (), "text"):
+                inject(headers)
+        self.assertEqual(self.pipeline.failed_calls, 5)
 
     def test_without_a_span_headers_stay(self):
         headers = {"traceparent": TRACEPARENT}

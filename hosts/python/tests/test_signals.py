@@ -10,9 +10,9 @@ import threading
 import time
 import unittest
 
-from otel_proved import Busy
+from otel_proved import Busy, Sender
 
-from .support import PACKAGE_FOLDER, PipelineTest, attributes_of
+from .support import PACKAGE_FOLDER, SHORT, Collector, PipelineTest, attributes_of
 
 EACH_SECOND = 3000
 SECONDS = 1.0
@@ -32,8 +32,8 @@ def is_in_package(frame):
     return False
 
 
-class Handlers(PipelineTest):
-    settings = {"OTEL_SPAN_PROCESSOR": "batch", "OTEL_BSP_MAX_QUEUE_SIZE": "1000000"}
+class SignalTest(PipelineTest):
+    """A test with signals."""
 
     def with_handler(self, handler, work):
         """Does some work over and over while signals come."""
@@ -48,6 +48,10 @@ class Handlers(PipelineTest):
             signal.setitimer(signal.ITIMER_REAL, 0)
             signal.signal(signal.SIGALRM, before)
         return number
+
+
+class Handlers(SignalTest):
+    settings = {"OTEL_SPAN_PROCESSOR": "batch", "OTEL_BSP_MAX_QUEUE_SIZE": "1000000"}
 
     def test_what_a_handler_raises_leaves_nothing_to_the_next_span(self):
         raised = []
@@ -108,6 +112,32 @@ class Handlers(PipelineTest):
             thread.join(PATIENCE)
         self.assertEqual(len(counts), 2)
         self.assertEqual(self.pipeline.failed_calls, 0)
+
+
+class Sending(SignalTest):
+    settings = {"OTEL_BSP_SCHEDULE_DELAY": "1"}
+
+    def test_what_a_handler_raises_stops_no_sender(self):
+        collector = Collector()
+        self.addCleanup(collector.stop)
+        sender = Sender(self.pipeline, collector.url, SHORT)
+        self.addCleanup(sender.close, 0)
+
+        def handler(_number, frame):
+            if is_in_package(frame):
+                raise Interruption
+
+        def work(number):
+            try:
+                self.pipeline.start_span(str(number)).end()
+                sender.flush(0.001)
+            except Interruption:
+                pass
+
+        self.with_handler(handler, work)
+        self.pipeline.start_span("last").end()
+        self.assertTrue(sender.flush(PATIENCE))
+        self.assertIn("last", collector.spans)
 
 
 PROGRAM = f"""
