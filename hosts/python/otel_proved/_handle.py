@@ -145,6 +145,7 @@ class Handle:
         self._ended = Count()
         self._turns = Turns()
         self._tracers: Dict[Scope, int] = {NO_SCOPE: 0}
+        self._rooms: Dict[str, int] = {}
         self._queue: Deque[Finish] = collections.deque()
         self._watches: Set[Watch] = set()
         self._gone: Deque[Watch] = collections.deque()
@@ -198,12 +199,14 @@ class Handle:
         _native.check(name, status)
 
     def _read(self, name: str, *arguments: Any) -> bytes:
-        length, wanted = ctypes.c_size_t(), _ROOM
+        length, wanted = ctypes.c_size_t(), self._rooms.get(name, _ROOM)
         while True:
             room = ctypes.create_string_buffer(wanted)
             status = self._status(name, *arguments, room, wanted, ctypes.byref(length))
             if status != _native.BUFFER_TOO_SMALL:
                 _native.check(name, status)
+                # The next answer is seldom twice as long; where it is, the library writes it a second time.
+                self._rooms[name] = max(_ROOM, 2 * length.value)
                 return ctypes.string_at(room, length.value)
             wanted = length.value
 

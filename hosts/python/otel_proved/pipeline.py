@@ -102,7 +102,8 @@ class Pipeline(Starter, _fork.Renewed):
     """A pipeline, safe for use from several threads. After a fork the child's is opened anew, with another seed.
 
     The settings are those of `otel_open` in hosts/c/otel.h, by name. Without them each variable OTEL_* of the
-    environment is one, but those of OTEL_EXPORTER_*, which a Sender reads. Without a seed it is random.
+    environment is one, but those that a Sender, `inject` and `extract` read. Without a seed it is random. The resource
+    says by `telemetry.sdk.name`, `.version` and `.language` that the SDK is this package, unless a setting says others.
     """
 
     def __init__(self, settings: Optional[Mapping[str, str]] = None, seed: Optional[int] = None) -> None:
