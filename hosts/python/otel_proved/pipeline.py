@@ -81,7 +81,8 @@ class Starter(abc.ABC):
     ) -> SpanBlock:
         """A span for the block of a `with`, in which it is the current one. It ends on every path.
 
-        An exception that leaves the block is recorded, and the status is an error.
+        An exception that leaves the block is recorded, and the status is an error. The end of a program that went well,
+        of a generator of which no more is asked, and of a task that is cancelled is none.
         """
         return SpanBlock(lambda: self.start_span(name, kind, attributes, parent, moment))
 

@@ -7,7 +7,7 @@ import time
 import unittest
 from unittest import mock
 
-from otel_proved import Pipeline, Sender
+from otel_proved import Pipeline
 
 from .support import SHORT, Collector, PipelineTest, spans_in
 from .test_sender import SenderTest, free_port, until
