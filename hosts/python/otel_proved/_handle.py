@@ -95,7 +95,7 @@ class Started:
         self.handle.unwatch(self._watch)
         # It would be heard of also where only the span itself has it.
         self._watch = None
-        self.handle.carry_out()
+        self.handle.carry_out_ends()
 
 
 class Watch(weakref.ref):  # type: ignore[type-arg]
@@ -176,12 +176,12 @@ class Handle:
         if self.is_foreign:
             raise OtherProcess("the span was started before a fork, in the parent process")
         if self._queue or self._gone:
-            self.carry_out()
+            self._carry_out()
         try:
             return take(*calls)
         finally:
             if self._queue or self._gone:
-                self.carry_out()
+                self._carry_out()
 
     def _status(self, name: str, *arguments: Any) -> int:
         return self._take(self._turns.take_one, partial(self._functions[name], self._address, *arguments))
@@ -265,17 +265,23 @@ class Handle:
         """Has a span's end carried out before the next call. It waits for no other call."""
         self._queue.append(finish)
 
-    def carry_out(self) -> None:
+    def carry_out_ends(self) -> None:
         """Carries out the ends that wait. In the middle of a turn they are left to whoever has that.
 
         Each stays in the queue until it is done, so that an exception loses none. A second time nothing comes of it.
         """
-        while (self._queue or self._gone) and not self._turns.is_mine():
-            finish, watch = _first(self._queue), _first(self._gone)
+        while self._queue and not self._turns.is_mine():
+            finish = _first(self._queue)
             if finish is not None:
                 self._settle(finish)
                 _drop(self._queue, finish)
-            elif watch is not None:
+
+    def _carry_out(self) -> None:
+        """Does so, and then has spans abandoned that nobody can name: a `__del__` may end them until the next call."""
+        self.carry_out_ends()
+        while self._gone and not self._turns.is_mine():
+            watch = _first(self._gone)
+            if watch is not None:
                 self._settle(Finish(watch.key_cell.value, _FORGET))
                 self._watches.discard(watch)
                 _drop(self._gone, watch)
@@ -349,7 +355,7 @@ class Handle:
     def after_fork_in_parent(self) -> None:
         """Lets the next call run."""
         self._turns.let_go()
-        self.carry_out()
+        self.carry_out_ends()
 
     def after_fork_in_child(self) -> None:
         """Never uses the parent's handle again, which stays in memory as it is."""

@@ -319,6 +319,19 @@ class Ends(PipelineTest):
         self.assertEqual((self.exported(), self.pipeline.forgotten_spans), ({}, 1))
         self.assertEqual(self.pipeline.counts().open_spans, 0)
 
+    def test_a_span_that_garbage_ends_is_not_forgotten(self):
+        class Holder:
+            def __init__(self, span):
+                self.me, self.span = self, span
+
+            def __del__(self):
+                self.span.end()
+
+        for number in range(5):
+            Holder(self.pipeline.start_span(str(number)))
+        gc.collect()
+        self.assertEqual((set(self.exported()), self.pipeline.forgotten_spans), (set("01234"), 0))
+
     def test_a_dropped_span_takes_calls(self):
         self.pipeline.close()
         self.settings = {"OTEL_TRACES_SAMPLER": "always_off"}
