@@ -133,6 +133,18 @@ fn a_line_is_tried_again() {
 }
 
 #[test]
+fn the_head_of_an_answer_decides_where_its_body_is_cut() {
+    let cut =
+        ["200 OK\r\ncontent-length: 50\r\n", "200 OK\r\ncontent-length: many\r\n", "400 Bad\r\ncontent-length: 50\r\n"];
+    let (collector, pipeline) = (Collector::start(&cut), one_line_a_span());
+    let sender = HttpSender::start(&pipeline, collector.endpoint(), short()).unwrap();
+    end_spans(&pipeline, 3);
+    assert!(sender.flush(LONG));
+    let counts = sender.close();
+    assert_eq!((counts.sent_spans, counts.lost_spans, collector.bodies().len()), (2, 1, 3));
+}
+
+#[test]
 fn the_collector_decides_how_long_to_wait() {
     let busy_for_a_second = "503 Busy\r\nRetry-After: 1\r\n";
     let (collector, pipeline) = (Collector::start(&[busy_for_a_second]), one_line_a_span());

@@ -5,8 +5,9 @@
 
 use std::io::{self, BufRead, Read};
 
-/// How many bytes a head may have, and a body.
+/// How many bytes a head may have, and a body; and how much is read of one that nobody needs whole.
 const HEAD_LIMIT: u64 = 64 * 1024;
+const SHORT_LIMIT: u64 = 64 * 1024;
 const BODY_LIMIT: u64 = 16 * 1024 * 1024;
 
 /// A request or an answer.
@@ -34,8 +35,7 @@ impl Message {
 
     /// Reads an answer.
     pub fn read_answer(from: &mut impl BufRead) -> io::Result<Self> {
-        let ended = || io::Error::new(io::ErrorKind::UnexpectedEof, "the connection ended without an answer");
-        let mut message = Self::read_head(from)?.ok_or_else(ended)?;
+        let mut message = Self::read_answer_head(from)?;
         match message.content_length()? {
             Some(length) => message.read_sized_body(from, length)?,
             None => {
@@ -43,6 +43,20 @@ impl Message {
             }
         }
         Ok(message)
+    }
+
+    /// Reads an answer of which the head decides: its body is what comes of it, and at most 64 KiB.
+    pub(super) fn read_answer_by_head(from: &mut impl BufRead) -> io::Result<Self> {
+        let mut message = Self::read_answer_head(from)?;
+        let length = message.content_length().ok().flatten().unwrap_or(SHORT_LIMIT);
+        // A body that is cut takes nothing back.
+        let _is_cut = from.take(length.min(SHORT_LIMIT)).read_to_end(&mut message.body);
+        Ok(message)
+    }
+
+    fn read_answer_head(from: &mut impl BufRead) -> io::Result<Self> {
+        let ended = || io::Error::new(io::ErrorKind::UnexpectedEof, "the connection ended without an answer");
+        Self::read_head(from)?.ok_or_else(ended)
     }
 
     fn read_head(from: &mut impl BufRead) -> io::Result<Option<Self>> {
@@ -129,6 +143,16 @@ mod tests {
         let answer = Message::read_answer(&mut &b"HTTP/1.1 503 Busy\nRetry-After: 1\n\nlater"[..]).unwrap();
         assert_eq!(answer.status(), Some(503));
         assert_eq!(answer.body, b"later");
+    }
+
+    #[test]
+    fn a_head_decides_whatever_comes_of_the_body() {
+        for length in ["content-length: 9\r\n", "content-length: many\r\n", ""] {
+            let text = format!("HTTP/1.1 200 OK\r\n{length}\r\ncut");
+            let answer = Message::read_answer_by_head(&mut text.as_bytes()).unwrap();
+            assert_eq!((answer.status(), &*answer.body), (Some(200), &b"cut"[..]));
+        }
+        assert!(Message::read_answer_by_head(&mut &b"HTTP/1.1 200 OK\r\na: b\r\n"[..]).is_err());
     }
 
     #[test]

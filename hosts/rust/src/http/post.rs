@@ -29,7 +29,7 @@ fn exchange(endpoint: &Endpoint, line: &[u8], limit: Duration) -> io::Result<Mes
     let mut connection = endpoint.connect(limit)?;
     let written = write_request(&mut connection, endpoint, line);
     // A collector may answer before it has read all, and then the rest cannot be written.
-    let answer = Message::read_answer(&mut BufReader::new(connection));
+    let answer = Message::read_answer_by_head(&mut BufReader::new(connection));
     answer.map_err(|error| written.err().unwrap_or(error))
 }
 

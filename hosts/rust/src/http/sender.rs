@@ -53,8 +53,9 @@ impl Default for Limits {
 /// Sends a pipeline's lines to a collector, from a thread of its own: it exports what is due, drains, and posts each
 /// line.
 ///
-/// A line is tried again where there is no answer, and at the statuses 429, 502, 503 and 504. One whose answer was lost
-/// may have been taken, and then comes twice. What is given up is counted.
+/// A line is tried again where there is no answer, and at the statuses 429, 502, 503 and 504. The head of an answer
+/// decides, also where its body is cut. A line whose answer was lost may have been taken, and then comes twice. What is
+/// given up is counted.
 ///
 /// It keeps its pipeline open. When it is dropped it sends what waits, as long as its limits allow; spans that end
 /// afterwards it does not send.
