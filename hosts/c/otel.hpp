@@ -1,31 +1,21 @@
 // SPDX-License-Identifier: Apache-2.0
 /* OpenTelemetry's trace pipeline, proved, for C++17: the calls of otel.h, whose comments say what each does, with
-   pipelines and spans that end themselves and errors that are thrown.
+   pipelines and spans that end themselves.
 
-   A pipeline and its spans are used by one thread at a time. A call that throws otel::Error has changed nothing. */
+   Calls of a span throw nothing: what fails is counted by Pipeline::failed_calls, and Pipeline::last_failure says why.
+   Calls of a pipeline throw otel::Error, and then have changed nothing. What builds the arguments of a call is the
+   caller's, and may throw for want of memory.
+
+   Threads may share a pipeline and its spans: each call takes the pipeline's lock. To move a span or a pipeline, or to
+   destroy it, is for one thread alone. */
 #ifndef OTEL_HPP
 #define OTEL_HPP
 
-#include "otel_values.hpp"
+#include "otel_span.hpp"
 
-#include <memory>
 #include <random>
 
 namespace otel {
-
-namespace detail {
-
-/* The handle of a pipeline, which stays at one address while the pipeline or one of its spans is there. */
-using SharedHandle = std::shared_ptr<otel_handle>;
-
-inline otel_handle *at(const SharedHandle &handle) {
-  if (handle == nullptr) {
-    throw Error("a pipeline or span that was moved away", OTEL_CLOSED);
-  }
-  return handle.get();
-}
-
-} // namespace detail
 
 /* A seed for a pipeline, which no other process has. */
 inline std::uint64_t random_seed() {
@@ -33,144 +23,24 @@ inline std::uint64_t random_seed() {
   return static_cast<std::uint64_t>(device()) << 32 | device();
 }
 
-/* An open span. Where it goes out of scope it ends, with the moment of the clock; a span that cannot be ended there is
-   abandoned, so call end() to be told. */
-class Span {
-public:
-  Span(Span &&other) noexcept : handle_(std::move(other.handle_)), key_(std::exchange(other.key_, 0)) {}
-  Span &operator=(Span &&other) noexcept {
-    if (this != &other) {
-      leave();
-      handle_ = std::move(other.handle_);
-      key_ = std::exchange(other.key_, 0);
-    }
-    return *this;
-  }
-  ~Span() { leave(); }
-
-  std::uint64_t key() const noexcept { return key_; }
-
-  Identity identity() const {
-    Identity identity;
-    detail::must("otel_identity", otel_identity(at(), key_, &identity));
-    return identity;
-  }
-
-  Span child(std::string_view name, const Start &start = {}) const { return Span(handle_, key_, name, start); }
-
-  template <typename Value> void set(std::string_view key, Value &&value) {
-    Attributes attributes; /* a list in braces would be copied */
-    attributes.emplace_back(key, std::forward<Value>(value));
-    set(attributes);
-  }
-  void set(const Attributes &attributes) {
-    detail::gather(at(), attributes);
-    detail::must("otel_set_attributes", otel_set_attributes(at(), key_));
-  }
-
-  void add_event(std::string_view name, const Attributes &attributes = {}, Moment moment = Clock::now()) {
-    std::uint64_t nanoseconds = detail::nanoseconds(moment);
-    detail::gather(at(), attributes);
-    detail::must("otel_add_event", otel_add_event(at(), key_, detail::bytes(name), name.size(), nanoseconds));
-  }
-
-  void record_exception(std::string_view type, std::string_view message, std::string_view stacktrace = {},
-                        Moment moment = Clock::now()) {
-    detail::must("otel_record_exception",
-                 otel_record_exception(at(), key_, detail::bytes(type), type.size(), detail::bytes(message),
-                                       message.size(), detail::bytes(stacktrace), stacktrace.size(),
-                                       detail::nanoseconds(moment)));
-  }
-
-  void add_link(const Span &linked, const Attributes &attributes = {}) {
-    detail::gather(at(), attributes);
-    detail::must("otel_add_link", otel_add_link(at(), key_, linked.key_));
-  }
-  void add_link(const Headers &headers, const Attributes &attributes = {}) {
-    std::string parent = detail::header(headers, "traceparent"), state = detail::header(headers, "tracestate");
-    detail::gather(at(), attributes);
-    detail::must("otel_add_remote_link", otel_add_remote_link(at(), key_, detail::bytes(parent), parent.size(),
-                                                              detail::bytes(state), state.size()));
-  }
-
-  void set_status(StatusCode code, std::string_view description = {}) {
-    detail::must("otel_set_status", otel_set_status(at(), key_, static_cast<std::uint32_t>(code),
-                                                    detail::bytes(description), description.size()));
-  }
-
-  void update_name(std::string_view name) {
-    detail::must("otel_update_name", otel_update_name(at(), key_, detail::bytes(name), name.size()));
-  }
-
-  /* The headers that hand the span on to another process. */
-  Headers inject() const {
-    return detail::headers_of(
-        detail::written("otel_inject", [this](auto... buffer) { return otel_inject(at(), key_, buffer...); }));
-  }
-
-  void end() { end_at(Clock::now()); }
-  void end_at(Moment moment) {
-    detail::must("otel_end", otel_end(at(), key_, detail::nanoseconds(moment)));
-    key_ = 0;
-  }
-  void abandon() {
-    detail::must("otel_abandon", otel_abandon(at(), key_));
-    key_ = 0;
-  }
-
-private:
-  friend class Pipeline;
-
-  Span(detail::SharedHandle handle, std::uint64_t parent, std::string_view name, const Start &start)
-      : handle_(std::move(handle)) {
-    std::uint64_t moment = detail::nanoseconds(start.moment);
-    detail::gather(at(), start.attributes);
-    detail::must("otel_start", otel_start(at(), start.tracer.number, parent, static_cast<std::uint32_t>(start.kind),
-                                          detail::bytes(name), name.size(), moment, &key_));
-  }
-
-  Span(detail::SharedHandle handle, const Headers &headers, std::string_view name, const Start &start)
-      : handle_(std::move(handle)) {
-    std::string parent = detail::header(headers, "traceparent"), state = detail::header(headers, "tracestate");
-    std::string baggage = detail::header(headers, "baggage");
-    std::uint64_t moment = detail::nanoseconds(start.moment);
-    detail::gather(at(), start.attributes);
-    detail::must("otel_start_remote", otel_start_remote(at(), start.tracer.number, detail::bytes(parent), parent.size(),
-                                                        detail::bytes(state), state.size(), detail::bytes(baggage),
-                                                        baggage.size(), static_cast<std::uint32_t>(start.kind),
-                                                        detail::bytes(name), name.size(), moment, &key_));
-  }
-
-  otel_handle *at() const { return detail::at(handle_); }
-
-  void leave() noexcept {
-    if (key_ == 0) {
-      return;
-    }
-    try {
-      end();
-    } catch (...) {
-      otel_abandon(handle_.get(), std::exchange(key_, 0));
-    }
-  }
-
-  detail::SharedHandle handle_;
-  std::uint64_t key_ = 0;
-};
-
 /* A pipeline. Where it goes out of scope it is closed: open spans are abandoned, and lines that nobody drained are
-   lost, so call shutdown() and drain() before. */
+   lost, which a notice says; so call shutdown() and drain() before.
+
+   A notice is a line of text, about the first spans that were dropped, the first batch that was not exported, and what
+   was lost at the end; of each there is at most one a minute. It goes to standard error, or to what on_notice() is
+   given. */
 class Pipeline {
 public:
   explicit Pipeline(std::string_view settings, std::uint64_t seed = random_seed())
-      : handle_(std::make_shared<otel_handle>()) {
-    detail::must("otel_open", otel_open(at(), detail::bytes(settings), settings.size(), seed));
+      : shared_(std::make_shared<detail::Shared>()) {
+    must("otel_open",
+         [&](otel_handle *handle) { return otel_open(handle, detail::bytes(settings), settings.size(), seed); });
   }
   Pipeline(Pipeline &&) noexcept = default;
   Pipeline &operator=(Pipeline &&other) noexcept {
     if (this != &other) {
       leave();
-      handle_ = std::move(other.handle_);
+      shared_ = std::move(other.shared_);
     }
     return *this;
   }
@@ -178,8 +48,7 @@ public:
 
   /* The names of the settings that were ignored. */
   std::vector<std::string> ignored_settings() const {
-    std::string lines = detail::written("otel_ignored_settings",
-                                        [this](auto... buffer) { return otel_ignored_settings(at(), buffer...); });
+    std::string lines = written("otel_ignored_settings", otel_ignored_settings);
     std::vector<std::string> names;
     for (std::size_t begin = 0, end; begin < lines.size(); begin = end + 1) {
       end = lines.find('\n', begin);
@@ -190,42 +59,100 @@ public:
 
   Tracer tracer(std::string_view name, std::string_view version = {}, std::string_view schema_url = {}) {
     Tracer tracer;
-    detail::must("otel_tracer",
-                 otel_tracer(at(), detail::bytes(name), name.size(), detail::bytes(version), version.size(),
-                             detail::bytes(schema_url), schema_url.size(), &tracer.number));
+    must("otel_tracer", [&](otel_handle *handle) {
+      return otel_tracer(handle, detail::bytes(name), name.size(), detail::bytes(version), version.size(),
+                         detail::bytes(schema_url), schema_url.size(), &tracer.number);
+    });
     return tracer;
   }
 
   /* A root. */
-  Span start(std::string_view name, const Start &start = {}) { return Span(handle_, 0, name, start); }
+  Span start(std::string_view name, const Start &start = {}) {
+    return started(
+        "otel_start",
+        [&](otel_handle *handle, std::uint64_t moment, std::uint64_t *key) {
+          return detail::start_here(handle, 0, {name, start, moment}, key);
+        },
+        start.moment);
+  }
   /* A child of the span of another process, which the headers name; without a valid traceparent a root. */
   Span start_remote(const Headers &headers, std::string_view name, const Start &start = {}) {
-    return Span(handle_, headers, name, start);
+    detail::Remote remote(headers);
+    return started(
+        "otel_start_remote",
+        [&](otel_handle *handle, std::uint64_t moment, std::uint64_t *key) {
+          detail::RemoteView view{remote.traceparent, remote.tracestate, remote.baggage};
+          return detail::start_remote(handle, view, {name, start, moment}, key);
+        },
+        start.moment);
   }
 
-  void flush() { detail::must("otel_flush", otel_flush(at())); }
-  void run(Moment moment = Clock::now()) { detail::must("otel_run", otel_run(at(), detail::nanoseconds(moment))); }
-  std::string drain() {
-    return detail::written("otel_drain", [this](auto... buffer) { return otel_drain(at(), buffer...); });
+  /* How many calls of spans failed, which throw nothing. */
+  std::uint64_t failed_calls() const noexcept { return shared_ == nullptr ? 0 : shared_->failed_calls(); }
+  /* Why the last of them failed. */
+  std::optional<Error> last_failure() const { return shared_ == nullptr ? std::nullopt : shared_->last_failure(); }
+
+  /* Has notices go there, from any thread that is in a call of the pipeline; without a function to standard error. */
+  void on_notice(Notice notice) { shared().notices.set(std::move(notice)); }
+
+  void flush() { look_after("otel_flush", otel_flush); }
+  /* Exports what is due, by a clock that never goes back: not that of the spans' moments, which is set now and then. */
+  void run(Steady::time_point moment = Steady::now()) {
+    auto count = std::chrono::duration_cast<std::chrono::nanoseconds>(moment.time_since_epoch()).count();
+    std::uint64_t when = static_cast<std::uint64_t>(std::max<decltype(count)>(count, 0));
+    look_after("otel_run", [when](otel_handle *handle) { return otel_run(handle, when); });
   }
+  std::string drain() { return written("otel_drain", otel_drain); }
   Numbers count() const {
     Numbers numbers;
-    detail::must("otel_count", otel_count(at(), &numbers));
+    must("otel_count", [&](otel_handle *handle) { return otel_count(handle, &numbers); });
     return numbers;
   }
-  void shutdown() { detail::must("otel_shutdown", otel_shutdown(at())); }
-  void close() { detail::must("otel_close", otel_close(at())); }
+  void shutdown() { look_after("otel_shutdown", otel_shutdown); }
+  void close() { detail::must("otel_close", shared().close()); }
 
 private:
-  otel_handle *at() const { return detail::at(handle_); }
+  detail::Shared &shared() const {
+    return shared_ == nullptr ? throw Error("a pipeline that was moved away", OTEL_CLOSED) : *shared_;
+  }
+
+  template <typename Calls> void must(const char *name, Calls calls) const { shared().must(name, calls); }
+
+  template <typename Write> std::string written(const char *name, Write write) const {
+    std::string found;
+    must(name, [&](otel_handle *handle) -> std::uint32_t {
+      found = detail::written(name, [&](auto... buffer) { return write(handle, buffer...); });
+      return OTEL_OK;
+    });
+    return found;
+  }
+
+  template <typename Calls> void look_after(const char *name, Calls calls) {
+    detail::Shared &it = shared();
+    try {
+      it.must(name, calls);
+    } catch (const Error &) {
+      it.look();
+      throw;
+    }
+    it.look();
+  }
+
+  template <typename Begin> Span started(const char *name, Begin begin, Moment moment) {
+    std::uint64_t when = detail::nanoseconds(moment);
+    Span span(shared_);
+    must(name, [&](otel_handle *handle) { return begin(handle, when, &span.key_); });
+    span.standing_ = Span::Standing::open;
+    return span;
+  }
 
   void leave() noexcept {
-    if (handle_ != nullptr) {
-      otel_close(handle_.get());
+    if (shared_ != nullptr) {
+      shared_->close();
     }
   }
 
-  detail::SharedHandle handle_;
+  detail::SharedHandle shared_;
 };
 
 } // namespace otel

@@ -9,6 +9,8 @@
 #include <chrono>
 #include <cstddef>
 #include <cstdint>
+#include <initializer_list>
+#include <optional>
 #include <stdexcept>
 #include <string>
 #include <string_view>
@@ -21,6 +23,7 @@ namespace otel {
 
 using Clock = std::chrono::system_clock;
 using Moment = Clock::time_point;
+using Steady = std::chrono::steady_clock;
 using Headers = std::vector<std::pair<std::string, std::string>>;
 using Identity = otel_span_identity;
 using Numbers = otel_numbers;
@@ -74,17 +77,23 @@ private:
   std::uint32_t status_;
 };
 
-/* An attribute, which views its key and its texts: they must stay until the call that it is given to. */
+/* An attribute, which views its key and its texts: they must stay until the call that it is given to. A null pointer to
+   a text is an empty text; `nullptr` as it stands is no value. */
 class Attribute {
 public:
   using Texts = std::vector<std::string_view>;
   using Integers = std::vector<std::int64_t>;
   using Floats = std::vector<double>;
   using Bools = std::vector<bool>;
-  using Value = std::variant<std::string_view, std::int64_t, double, bool, Texts, Integers, Floats, Bools>;
+  using Value = std::variant<std::string_view, std::int64_t, double, bool, Texts, Integers, Floats, Bools, std::string>;
+
+  /* Whether every value of a type of integers has a place in 64 bits with a sign. */
+  template <typename Number> static constexpr bool FITS = std::is_signed_v<Number> || sizeof(Number) < 8;
 
   Attribute(std::string_view key, std::string_view value) : key_(key), value_(value) {}
-  Attribute(std::string_view key, const char *value) : key_(key), value_(std::string_view(value)) {}
+  Attribute(std::string_view key, const char *value)
+      : key_(key), value_(std::string_view(value == nullptr ? "" : value)) {}
+  Attribute(std::string_view key, std::nullptr_t) = delete;
   Attribute(std::string_view key, const std::string &value) : key_(key), value_(std::string_view(value)) {}
   Attribute(std::string_view key, Texts values) : key_(key), value_(std::move(values)) {}
   Attribute(std::string_view key, const std::vector<std::string> &values)
@@ -93,21 +102,54 @@ public:
   Attribute(std::string_view key, Floats values) : key_(key), value_(std::move(values)) {}
   Attribute(std::string_view key, Bools values) : key_(key), value_(std::move(values)) {}
 
+  /* A list in braces, of items of one type. */
+  template <typename Item, typename = std::enable_if_t<!std::is_same_v<Item, std::nullptr_t>>>
+  Attribute(std::string_view key, std::initializer_list<Item> items) : key_(key), value_(list_of(items)) {}
+
   /* A truth value, or an integer of a type whose every value has a place in 64 bits with a sign. */
-  template <typename Number,
-            typename = std::enable_if_t<std::is_integral_v<Number> && (std::is_signed_v<Number> || sizeof(Number) < 8)>>
+  template <typename Number, std::enable_if_t<std::is_integral_v<Number> && FITS<Number>, int> = 0>
   Attribute(std::string_view key, Number value)
       : key_(key), value_(static_cast<std::conditional_t<std::is_same_v<Number, bool>, bool, std::int64_t>>(value)) {}
+
+  /* An integer such as a size. One that has no place there is the text of its digits, as OpenTelemetry maps it. */
+  template <typename Number,
+            std::enable_if_t<std::is_unsigned_v<Number> && sizeof(Number) == sizeof(std::uint64_t), long> = 0>
+  Attribute(std::string_view key, Number value) : key_(key), value_(static_cast<std::int64_t>(value)) {
+    if (value > static_cast<Number>(INT64_MAX)) {
+      value_ = std::to_string(value);
+    }
+  }
 
   /* A float of a type whose every value is a double. */
   template <typename Number,
             std::enable_if_t<std::is_floating_point_v<Number> && sizeof(Number) <= sizeof(double), int> = 0>
   Attribute(std::string_view key, Number value) : key_(key), value_(static_cast<double>(value)) {}
 
+  Attribute(const Attribute &) = default;
+  Attribute(Attribute &&) = default;
+  Attribute &operator=(const Attribute &) = default;
+  Attribute &operator=(Attribute &&) = default;
+  /* Where this is inlined, GCC 12 warns of lists that the attribute does not have. */
+  [[gnu::noinline]] ~Attribute() {}
+
   std::string_view key() const noexcept { return key_; }
   const Value &value() const noexcept { return value_; }
 
 private:
+  template <typename Item> static Value list_of(std::initializer_list<Item> items) {
+    if constexpr (std::is_same_v<Item, bool>) {
+      return Bools(items);
+    } else if constexpr (std::is_integral_v<Item>) {
+      static_assert(FITS<Item>, "a list has no integers without a place in 64 bits with a sign");
+      return Integers(items.begin(), items.end());
+    } else if constexpr (std::is_floating_point_v<Item>) {
+      static_assert(sizeof(Item) <= sizeof(double), "a list has no floats that are no double");
+      return Floats(items.begin(), items.end());
+    } else {
+      return Texts(items.begin(), items.end());
+    }
+  }
+
   std::string_view key_;
   Value value_;
 };
@@ -146,12 +188,15 @@ inline void must(const char *call, std::uint32_t status) {
   }
 }
 
-inline std::uint64_t nanoseconds(Moment moment) {
+/* The nanoseconds since 1970, of a moment that is not before it. */
+inline std::optional<std::uint64_t> number_of(Moment moment) noexcept {
   auto count = std::chrono::duration_cast<std::chrono::nanoseconds>(moment.time_since_epoch()).count();
-  if (count < 0) {
-    throw Error("a moment before 1970", OTEL_BAD_ARGUMENT);
-  }
-  return static_cast<std::uint64_t>(count);
+  return count < 0 ? std::nullopt : std::optional<std::uint64_t>(static_cast<std::uint64_t>(count));
+}
+
+inline std::uint64_t nanoseconds(Moment moment) {
+  std::optional<std::uint64_t> number = number_of(moment);
+  return number ? *number : throw Error("a moment before 1970", OTEL_BAD_ARGUMENT);
 }
 
 /* Gathers one attribute. */
@@ -191,15 +236,23 @@ struct Gather {
 
 /* Gathers attributes for the next call. Where one is refused, those before it are let go again: an edit of no span
    takes them. */
-inline void gather(otel_handle *handle, const Attributes &attributes) {
+inline std::uint32_t gather(otel_handle *handle, const Attribute *attributes, std::size_t count) {
+  std::uint32_t status = OTEL_OK;
   try {
-    for (const Attribute &attribute : attributes) {
-      must("an attribute", std::visit(Gather{handle, attribute.key()}, attribute.value()));
+    for (const Attribute *it = attributes; status == OTEL_OK && it != attributes + count; it++) {
+      status = std::visit(Gather{handle, it->key()}, it->value());
     }
   } catch (...) {
     otel_set_attributes(handle, 0);
     throw;
   }
+  if (status != OTEL_OK) {
+    otel_set_attributes(handle, 0);
+  }
+  return status;
+}
+inline std::uint32_t gather(otel_handle *handle, const Attributes &attributes) {
+  return gather(handle, attributes.data(), attributes.size());
 }
 
 /* What a call writes into a buffer, which grows to what it needs. */
@@ -230,6 +283,16 @@ inline std::string header(const Headers &headers, std::string_view name) {
   }
   return found;
 }
+
+/* What headers say about the span of another process. */
+struct Remote {
+  std::string traceparent, tracestate, baggage;
+
+  Remote() = default;
+  explicit Remote(const Headers &headers)
+      : traceparent(header(headers, "traceparent")), tracestate(header(headers, "tracestate")),
+        baggage(header(headers, "baggage")) {}
+};
 
 /* The headers of lines that end in a carriage return and a line feed. */
 inline Headers headers_of(std::string_view lines) {

@@ -1,0 +1,212 @@
+// SPDX-License-Identifier: Apache-2.0
+/* What a pipeline of otel.hpp and its spans share: the handle behind a lock, a count of calls that failed without an
+   error being thrown, and the word that is said when spans are lost. */
+#ifndef OTEL_SHARED_HPP
+#define OTEL_SHARED_HPP
+
+#include "otel_values.hpp"
+
+#include <cstdio>
+#include <functional>
+#include <memory>
+#include <mutex>
+#include <new>
+#include <optional>
+
+namespace otel {
+
+/* Takes a notice: a line without its end. */
+using Notice = std::function<void(const std::string &)>;
+
+namespace detail {
+
+/* What a notice may be about; of each there is at most one a minute. */
+enum class About { drops, batches, end };
+
+/* How many spans lines have: each has this member once, and nothing else does. */
+inline std::uint64_t spans_in(std::string_view lines) noexcept {
+  constexpr std::string_view member = "\"startTimeUnixNano\":";
+  std::uint64_t count = 0;
+  for (std::size_t at = lines.find(member); at != lines.npos; at = lines.find(member, at + member.size())) {
+    count++;
+  }
+  return count;
+}
+
+/* Says what matters, and not often. */
+class Notices {
+public:
+  void set(Notice notice) {
+    std::lock_guard<std::mutex> lock(mutex_);
+    notice_ = std::move(notice);
+  }
+
+  /* Hands a notice to whoever takes them, or to standard error. What that throws goes no further. */
+  void say(About about, const char *what, std::uint64_t count) noexcept {
+    try {
+      std::string text = what + (": " + std::to_string(count));
+      std::optional<Notice> notice = due(about);
+      if (notice && *notice) {
+        (*notice)(text);
+      } else if (notice) {
+        std::fprintf(stderr, "otel_proved: %s\n", text.c_str());
+      }
+    } catch (...) {
+    }
+  }
+
+private:
+  std::optional<Notice> due(About about) {
+    std::lock_guard<std::mutex> lock(mutex_);
+    Steady::time_point now = Steady::now();
+    std::optional<Steady::time_point> &next = next_[static_cast<std::size_t>(about)];
+    if (next && now < *next) {
+      return std::nullopt;
+    }
+    next = now + std::chrono::minutes(1);
+    return notice_;
+  }
+
+  std::mutex mutex_;
+  Notice notice_;
+  std::optional<Steady::time_point> next_[3];
+};
+
+class Shared {
+public:
+  Shared() = default;
+  Shared(const Shared &) = delete;
+  Shared &operator=(const Shared &) = delete;
+  ~Shared() { otel_close(&handle_); }
+
+  /* Makes calls that no other thread comes between. They answer a status, which is thrown where it is an error. */
+  template <typename Calls> void must(const char *name, Calls calls) {
+    std::lock_guard<std::mutex> lock(mutex_);
+    detail::must(name, calls(&handle_));
+  }
+
+  /* The same, but an error is counted. */
+  template <typename Calls> void attempt(const char *name, Calls calls) noexcept {
+    try {
+      std::lock_guard<std::mutex> lock(mutex_);
+      note(name, status_of(calls));
+    } catch (...) { /* a mutex that the system cannot lock */
+    }
+  }
+
+  /* A moment in nanoseconds. One that has no number counts as a failure, and now is meant. */
+  std::uint64_t near(Moment moment) noexcept {
+    std::optional<std::uint64_t> found = number_of(moment);
+    if (!found) {
+      attempt("a moment before 1970", [](otel_handle *) -> std::uint32_t { return OTEL_BAD_ARGUMENT; });
+      found = number_of(Clock::now());
+    }
+    return found.value_or(0);
+  }
+
+  std::uint64_t failed_calls() noexcept {
+    std::lock_guard<std::mutex> lock(mutex_);
+    return failed_calls_;
+  }
+
+  std::optional<Error> last_failure() {
+    std::lock_guard<std::mutex> lock(mutex_);
+    return failed_calls_ == 0 ? std::nullopt : std::optional<Error>(Error(last_name_, last_status_));
+  }
+
+  /* Says so where spans were dropped, refused or not exported since it looked last. */
+  void look() noexcept {
+    otel_numbers numbers{};
+    std::uint64_t dropped = 0, batches = 0;
+    attempt("otel_count", [&](otel_handle *handle) -> std::uint32_t {
+      if (otel_count(handle, &numbers) == OTEL_OK) {
+        std::uint64_t lost = numbers.dropped_spans + numbers.refused_spans;
+        dropped = lost > seen_drops_ ? lost : 0;
+        batches = numbers.lost_batches > seen_batches_ ? numbers.lost_batches : 0;
+        seen_drops_ = lost;
+        seen_batches_ = numbers.lost_batches;
+      }
+      return OTEL_OK;
+    });
+    if (dropped > 0) {
+      notices.say(About::drops, "spans that are lost, since the queue was full or memory ran out", dropped);
+    }
+    if (batches > 0) {
+      notices.say(About::batches, "batches of spans that were not exported, and are lost", batches);
+    }
+  }
+
+  /* Closes the handle, and says what is lost with it. */
+  std::uint32_t close() noexcept {
+    std::uint32_t status = OTEL_CLOSED;
+    std::uint64_t lost = 0;
+    attempt("otel_shutdown", [](otel_handle *handle) -> std::uint32_t {
+      otel_shutdown(handle); /* an error says that it was shut down or closed before, or what look() finds */
+      return OTEL_OK;
+    });
+    look();
+    attempt("otel_close", [&](otel_handle *handle) -> std::uint32_t {
+      otel_numbers numbers{};
+      otel_count(handle, &numbers);
+      lost = numbers.open_spans + numbers.waiting_spans + undrained_spans(handle);
+      status = otel_close(handle);
+      return OTEL_OK;
+    });
+    if (lost > 0) {
+      notices.say(About::end, "spans that were open or not drained at the end, and are lost", lost);
+    }
+    return status;
+  }
+
+  Notices notices;
+
+private:
+  /* How many spans are in the lines that nobody drained; where there is no memory to look, as many as are sure. */
+  static std::uint64_t undrained_spans(otel_handle *handle) noexcept {
+    std::uint64_t count = 0;
+    try {
+      written("otel_drain", [handle, &count](std::uint8_t *buffer, std::size_t room, std::size_t *length) {
+        std::uint32_t status = otel_drain(handle, buffer, room, length);
+        count = status == OTEL_OK ? spans_in({reinterpret_cast<char *>(buffer), *length}) : *length > 0;
+        return status;
+      });
+    } catch (...) {
+    }
+    return count;
+  }
+
+  template <typename Calls> std::uint32_t status_of(Calls &calls) noexcept {
+    try {
+      return calls(&handle_);
+    } catch (const Error &error) {
+      return error.status();
+    } catch (const std::bad_alloc &) {
+      return OTEL_OUT_OF_MEMORY;
+    } catch (...) {
+      return OTEL_FAILED;
+    }
+  }
+
+  void note(const char *name, std::uint32_t status) noexcept {
+    if (status != OTEL_OK) {
+      failed_calls_++;
+      last_name_ = name;
+      last_status_ = status;
+    }
+  }
+
+  std::mutex mutex_;
+  otel_handle handle_{};
+  std::uint64_t failed_calls_ = 0;
+  const char *last_name_ = "";
+  std::uint32_t last_status_ = OTEL_OK;
+  std::uint64_t seen_drops_ = 0, seen_batches_ = 0;
+};
+
+using SharedHandle = std::shared_ptr<Shared>;
+
+} // namespace detail
+
+} // namespace otel
+
+#endif

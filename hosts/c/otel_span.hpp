@@ -1,0 +1,329 @@
+// SPDX-License-Identifier: Apache-2.0
+/* The spans of otel.hpp. */
+#ifndef OTEL_SPAN_HPP
+#define OTEL_SPAN_HPP
+
+#include "otel_shared.hpp"
+
+#include <array>
+#include <atomic>
+#include <exception>
+
+namespace otel {
+
+namespace detail {
+
+/* What a span begins with, beside its parent. */
+struct Beginning {
+  std::string_view name;
+  const Start &start;
+  std::uint64_t moment;
+};
+
+/* The headers that name the span of another process, or one of this that has ended. */
+struct RemoteView {
+  std::string_view traceparent, tracestate, baggage;
+};
+
+inline std::uint32_t start_here(otel_handle *handle, std::uint64_t parent, const Beginning &beginning,
+                                std::uint64_t *key) {
+  const auto &[name, start, moment] = beginning;
+  std::uint32_t status = gather(handle, start.attributes);
+  return status != OTEL_OK ? status
+                           : otel_start(handle, start.tracer.number, parent, static_cast<std::uint32_t>(start.kind),
+                                        bytes(name), name.size(), moment, key);
+}
+
+inline std::uint32_t start_remote(otel_handle *handle, const RemoteView &remote, const Beginning &beginning,
+                                  std::uint64_t *key) {
+  const auto &[name, start, moment] = beginning;
+  const auto &[parent, state, baggage] = remote;
+  std::uint32_t status = gather(handle, start.attributes);
+  return status != OTEL_OK
+             ? status
+             : otel_start_remote(handle, start.tracer.number, bytes(parent), parent.size(), bytes(state), state.size(),
+                                 bytes(baggage), baggage.size(), static_cast<std::uint32_t>(start.kind), bytes(name),
+                                 name.size(), moment, key);
+}
+
+inline std::uint32_t link_remote(otel_handle *handle, std::uint64_t key, const RemoteView &remote) {
+  const auto &[parent, state, baggage] = remote;
+  return otel_add_remote_link(handle, key, bytes(parent), parent.size(), bytes(state), state.size());
+}
+
+/* Who a span was, for its children after its end. */
+class Kept {
+public:
+  Identity identity{};
+
+  /* Keeps who an open span is. Where there is no memory for its trace state and its baggage they are left out. */
+  std::uint32_t keep(otel_handle *handle, std::uint64_t key) noexcept {
+    std::uint32_t status = otel_identity(handle, key, &identity);
+    if (status != OTEL_OK) {
+      return status;
+    }
+    int length = std::snprintf(traceparent_.data(), traceparent_.size(), "00-%016llx%016llx-%016llx-%02x",
+                               number(identity.trace_id_high), number(identity.trace_id_low), number(identity.span_id),
+                               identity.trace_flags & 0xff);
+    length_ = identity.trace_id_high + identity.trace_id_low == 0 || length < 0 ? 0 : static_cast<std::size_t>(length);
+    try {
+      headers_ = Remote(headers_of(
+          written("otel_inject", [handle, key](auto... buffer) { return otel_inject(handle, key, buffer...); })));
+      return OTEL_OK;
+    } catch (...) {
+      headers_ = Remote();
+      return OTEL_OUT_OF_MEMORY;
+    }
+  }
+
+  RemoteView view() const noexcept { return {{traceparent_.data(), length_}, headers_.tracestate, headers_.baggage}; }
+
+  Headers headers() const {
+    Headers headers;
+    for (const auto &[name, value] : {std::pair("traceparent", view().traceparent),
+                                      {"tracestate", view().tracestate},
+                                      {"baggage", view().baggage}}) {
+      if (!value.empty()) {
+        headers.emplace_back(name, value);
+      }
+    }
+    return headers;
+  }
+
+private:
+  static unsigned long long number(std::uint64_t id) noexcept { return id; }
+
+  std::array<char, 56> traceparent_{};
+  std::size_t length_ = 0;
+  Remote headers_;
+};
+
+} // namespace detail
+
+/* Work that is traced. Where it goes out of scope it ends, with the moment of the clock; where that is since an
+   exception leaves the scope, the span is an error, with an event `exception`.
+
+   One that could not start records nothing, and its children are those of its parent. One that was moved away does
+   nothing. */
+class Span {
+public:
+  Span(Span &&other) noexcept { take(other); }
+  Span &operator=(Span &&other) noexcept {
+    if (this != &other) {
+      leave();
+      take(other);
+    }
+    return *this;
+  }
+  ~Span() { leave(); }
+
+  /* The key of a span that is open, or else 0. */
+  std::uint64_t key() const noexcept { return standing_ == Standing::open ? key_ : 0; }
+
+  /* Who the span is, also after its end. */
+  Identity identity() const noexcept {
+    Identity identity{};
+    attempt("otel_identity", [&](otel_handle *handle) -> std::uint32_t {
+      if (standing_ == Standing::open) {
+        return otel_identity(handle, key_, &identity);
+      }
+      identity = kept_.identity;
+      return OTEL_OK;
+    });
+    return identity;
+  }
+
+  /* A child, also of a span that has ended. */
+  Span child(std::string_view name, const Start &start = {}) const noexcept {
+    Span span(shared_);
+    std::uint64_t moment = shared_ == nullptr ? 0 : shared_->near(start.moment);
+    attempt("otel_start", [&](otel_handle *handle) -> std::uint32_t {
+      detail::Beginning beginning{name, start, moment};
+      std::uint32_t status = standing_ == Standing::open
+                                 ? detail::start_here(handle, key_, beginning, &span.key_)
+                                 : detail::start_remote(handle, kept_.view(), beginning, &span.key_);
+      if (status == OTEL_OK) {
+        span.standing_ = Standing::open;
+      } else if (standing_ == Standing::open) {
+        span.kept_.keep(handle, key_);
+      } else {
+        span.kept_ = kept_;
+      }
+      return status;
+    });
+    return span;
+  }
+
+  template <typename Value, std::enable_if_t<std::is_constructible_v<Attribute, std::string_view, Value>, int> = 0>
+  void set(std::string_view key, Value &&value) noexcept {
+    edit("otel_set_attributes", [&](otel_handle *handle) {
+      Attribute attribute(key, std::forward<Value>(value));
+      std::uint32_t status = detail::gather(handle, &attribute, 1);
+      return status != OTEL_OK ? status : otel_set_attributes(handle, key_);
+    });
+  }
+  /* A list in braces, of items of one type. */
+  template <typename Item, std::enable_if_t<!std::is_same_v<Item, std::nullptr_t>, int> = 0>
+  void set(std::string_view key, std::initializer_list<Item> items) noexcept {
+    set<std::initializer_list<Item>>(key, std::move(items));
+  }
+  void set(const Attributes &attributes) noexcept {
+    edit_with(attributes, "otel_set_attributes",
+              [&](otel_handle *handle) { return otel_set_attributes(handle, key_); });
+  }
+
+  void add_event(std::string_view name, const Attributes &attributes = {}, Moment moment = Clock::now()) noexcept {
+    std::uint64_t when = near(moment);
+    edit_with(attributes, "otel_add_event", [&](otel_handle *handle) {
+      return otel_add_event(handle, key_, detail::bytes(name), name.size(), when);
+    });
+  }
+
+  void record_exception(std::string_view type, std::string_view message, std::string_view stacktrace = {},
+                        Moment moment = Clock::now()) noexcept {
+    std::uint64_t when = near(moment);
+    edit("otel_record_exception", [&](otel_handle *handle) {
+      return otel_record_exception(handle, key_, detail::bytes(type), type.size(), detail::bytes(message),
+                                   message.size(), detail::bytes(stacktrace), stacktrace.size(), when);
+    });
+  }
+
+  /* A link to another span, also to one that has ended, or of another pipeline. */
+  void add_link(const Span &linked, const Attributes &attributes = {}) noexcept {
+    if (linked.shared_ != shared_) {
+      return add_link(linked.inject(), attributes);
+    }
+    edit_with(attributes, "otel_add_link", [&](otel_handle *handle) {
+      return linked.standing_ == Standing::open ? otel_add_link(handle, key_, linked.key_)
+                                                : detail::link_remote(handle, key_, linked.kept_.view());
+    });
+  }
+  void add_link(const Headers &headers, const Attributes &attributes = {}) noexcept {
+    edit("otel_add_remote_link", [&](otel_handle *handle) {
+      detail::Remote remote(headers);
+      std::uint32_t status = detail::gather(handle, attributes);
+      return status != OTEL_OK ? status
+                               : detail::link_remote(handle, key_, {remote.traceparent, remote.tracestate, {}});
+    });
+  }
+
+  void set_status(StatusCode code, std::string_view description = {}) noexcept {
+    edit("otel_set_status", [&](otel_handle *handle) {
+      return otel_set_status(handle, key_, static_cast<std::uint32_t>(code), detail::bytes(description),
+                             description.size());
+    });
+  }
+
+  void update_name(std::string_view name) noexcept {
+    edit("otel_update_name",
+         [&](otel_handle *handle) { return otel_update_name(handle, key_, detail::bytes(name), name.size()); });
+  }
+
+  /* The headers that hand the span on to another process, also after its end. */
+  Headers inject() const noexcept {
+    Headers headers;
+    attempt("otel_inject", [&](otel_handle *handle) -> std::uint32_t {
+      if (standing_ == Standing::open) {
+        headers = detail::headers_of(
+            detail::written("otel_inject", [&](auto... buffer) { return otel_inject(handle, key_, buffer...); }));
+      } else {
+        headers = kept_.headers();
+      }
+      return OTEL_OK;
+    });
+    return headers;
+  }
+
+  void end() noexcept { end_at(Clock::now()); }
+  /* Ends the span. Where that fails it is abandoned, so that no span stays open for ever. */
+  void end_at(Moment moment) noexcept { finish(moment, true); }
+  void abandon() noexcept {
+    edit("otel_abandon", [this](otel_handle *handle) {
+      std::uint32_t kept = keep(handle), status = otel_abandon(handle, key_);
+      return status != OTEL_OK ? status : kept;
+    });
+  }
+
+private:
+  friend class Pipeline;
+
+  enum class Standing { unstarted, open, over };
+
+  explicit Span(detail::SharedHandle shared) noexcept : shared_(std::move(shared)) {}
+
+  template <typename Calls> void attempt(const char *name, Calls calls) const noexcept {
+    if (shared_ != nullptr) {
+      shared_->attempt(name, calls);
+    }
+  }
+
+  /* A change of a span that did start; after its end that is a failure. */
+  template <typename Calls> void edit(const char *name, Calls calls) noexcept {
+    attempt(name, [&](otel_handle *handle) -> std::uint32_t {
+      return standing_ == Standing::unstarted ? static_cast<std::uint32_t>(OTEL_OK) : calls(handle);
+    });
+  }
+  template <typename Calls> void edit_with(const Attributes &attributes, const char *name, Calls calls) noexcept {
+    edit(name, [&](otel_handle *handle) -> std::uint32_t {
+      std::uint32_t status = detail::gather(handle, attributes);
+      return status != OTEL_OK ? status : calls(handle);
+    });
+  }
+
+  std::uint64_t near(Moment moment) const noexcept { return shared_ == nullptr ? 0 : shared_->near(moment); }
+
+  /* Keeps who the span is, before its end. */
+  std::uint32_t keep(otel_handle *handle) noexcept {
+    if (standing_ == Standing::over) {
+      return OTEL_OK;
+    }
+    std::uint32_t status = kept_.keep(handle, key_);
+    standing_ = Standing::over;
+    return status;
+  }
+
+  void finish(Moment moment, bool has_children_yet) noexcept {
+    std::uint64_t when = near(moment);
+    edit("otel_end", [&](otel_handle *handle) {
+      std::uint32_t kept = has_children_yet ? keep(handle) : static_cast<std::uint32_t>(OTEL_OK);
+      std::uint32_t status = otel_end(handle, key_, when);
+      if (status != OTEL_OK) {
+        otel_abandon(handle, key_);
+      }
+      standing_ = Standing::over;
+      return status != OTEL_OK ? status : kept;
+    });
+  }
+
+  void leave() noexcept {
+    if (shared_ == nullptr || standing_ != Standing::open) {
+      return;
+    }
+    if (std::uncaught_exceptions() > exceptions_) {
+      record_exception({}, "an exception left the scope of the span");
+      set_status(StatusCode::error);
+    }
+    finish(Clock::now(), false);
+  }
+
+  void take(Span &other) noexcept {
+    shared_ = std::move(other.shared_);
+    key_ = other.key_;
+    standing_ = other.standing_.exchange(Standing::unstarted);
+    exceptions_ = std::uncaught_exceptions();
+    kept_ = std::exchange(other.kept_, detail::Kept());
+  }
+
+  detail::SharedHandle shared_;
+  std::uint64_t key_ = 0;
+  /* Another value comes under the lock alone. */
+  std::atomic<Standing> standing_{Standing::unstarted};
+  /* How many exceptions were on their way when the span came to this place. */
+  int exceptions_ = std::uncaught_exceptions();
+  /* Who it was, once it is over; who its parent is, where it could not start. */
+  detail::Kept kept_;
+};
+
+} // namespace otel
+
+#endif
