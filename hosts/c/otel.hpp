@@ -23,8 +23,9 @@ inline std::uint64_t random_seed() {
   return static_cast<std::uint64_t>(device()) << 32 | device();
 }
 
-/* A pipeline. Where it goes out of scope it is closed: open spans are abandoned, and lines that nobody drained are
-   lost, which a notice says; so call shutdown() and drain() before.
+/* A pipeline. Its settings are those of otel_open; the resource says by telemetry.sdk.name, .version and .language that
+   the SDK is this package, unless a setting says others. Where it goes out of scope it is closed: open spans are
+   abandoned, and lines that nobody drained are lost, which a notice says; so call shutdown() and drain() before.
 
    A notice is a line of text, about the first spans that were dropped, the first batch that was not exported, and what
    was lost at the end; of each there is at most one a minute. It goes to standard error, or to what on_notice() is
@@ -33,8 +34,8 @@ class Pipeline {
 public:
   explicit Pipeline(std::string_view settings, std::uint64_t seed = random_seed())
       : shared_(std::make_shared<detail::Shared>()) {
-    must("otel_open",
-         [&](otel_handle *handle) { return otel_open(handle, detail::bytes(settings), settings.size(), seed); });
+    std::string lines = detail::with_sdk(settings);
+    must("otel_open", [&](otel_handle *handle) { return otel_open(handle, detail::bytes(lines), lines.size(), seed); });
   }
   Pipeline(Pipeline &&) noexcept = default;
   Pipeline &operator=(Pipeline &&other) noexcept {

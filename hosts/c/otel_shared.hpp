@@ -18,7 +18,29 @@ namespace otel {
 /* Takes a notice: a line without its end. */
 using Notice = std::function<void(const std::string &)>;
 
+/* The version of this package, which pkg-config and CMake are told too. */
+inline constexpr std::string_view VERSION = "0.1.0";
+
 namespace detail {
+
+/* The settings, with what the resource says of the SDK, which OpenTelemetry asks of each that is not its own. Of two
+   attributes the later counts, so the user's. */
+inline std::string with_sdk(std::string_view settings) {
+  constexpr std::string_view name = "OTEL_RESOURCE_ATTRIBUTES=";
+  std::string about = std::string(name) + "telemetry.sdk.name=otel_proved,telemetry.sdk.language=cpp,";
+  about.append("telemetry.sdk.version=").append(VERSION);
+  std::string lines;
+  bool is_said = false;
+  while (!settings.empty()) {
+    std::string_view line = settings.substr(0, settings.find('\n'));
+    bool is_ours = line.substr(0, name.size()) == name;
+    lines += is_ours ? about + "," + std::string(line.substr(name.size())) : std::string(line);
+    lines += '\n';
+    is_said = is_said || is_ours;
+    settings.remove_prefix(std::min(line.size() + 1, settings.size()));
+  }
+  return is_said ? lines : lines + about + '\n';
+}
 
 /* What a notice may be about; of each there is at most one a minute. */
 enum class About { drops, batches, end };

@@ -187,6 +187,29 @@ void headers_carry_a_trace() {
   hold(root.identity().trace_id_high != 0x0af7651916cd43dd, "without headers a span is a root");
 }
 
+void resources_name_the_sdk() {
+  for (const char *settings : {"", "OTEL_SERVICE_NAME=shop", "OTEL_RESOURCE_ATTRIBUTES=a=b\nOTEL_SERVICE_NAME=shop\n",
+                               "OTEL_RESOURCE_ATTRIBUTES="}) {
+    otel::Pipeline pipeline(settings, 1);
+    hold(pipeline.ignored_settings().empty(), "no setting is ignored");
+    pipeline.start("one").end();
+    pipeline.flush();
+    std::string lines = pipeline.drain();
+    for (const char *wanted : {R"({"key":"telemetry.sdk.name","value":{"stringValue":"otel_proved"}})",
+                               R"({"key":"telemetry.sdk.language","value":{"stringValue":"cpp"}})",
+                               R"({"key":"telemetry.sdk.version","value":{"stringValue":"0.1.0"}})"}) {
+      hold(has(lines, wanted), wanted);
+    }
+    bool has_b = std::string(settings).find("a=b") != std::string::npos;
+    hold(has_b == has(lines, R"({"key":"a","value":{"stringValue":"b"}})"), "the user's attributes are there");
+  }
+  otel::Pipeline pipeline("OTEL_RESOURCE_ATTRIBUTES=telemetry.sdk.name=mine", 1);
+  pipeline.start("one").end();
+  pipeline.flush();
+  hold(has(pipeline.drain(), R"({"key":"telemetry.sdk.name","value":{"stringValue":"mine"}})"),
+       "the user's word counts");
+}
+
 void pipelines_close() {
   otel::Pipeline pipeline("NO_SUCH_SETTING=1\nOTEL_SPAN_PROCESSOR=batch", otel::random_seed());
   hold(pipeline.ignored_settings() == std::vector<std::string>{"NO_SUCH_SETTING"}, "an ignored setting is named");
@@ -210,6 +233,7 @@ int main() {
   sizes_and_lists_in_braces_are_values();
   refusals_leave_nothing();
   headers_carry_a_trace();
+  resources_name_the_sdk();
   pipelines_close();
   std::cout << "scopes: all is so\n";
   return 0;
