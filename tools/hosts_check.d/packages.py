@@ -35,6 +35,7 @@ def parts(calls):
         "c_valgrind": run_under_valgrind,
         "rust_build": build_rust,
         "rust_tests": lambda: run_all(["cargo", "test", "--offline", "--quiet"], cwd=RUST),
+        "rust_clippy": look_at_rust,
         "python_tests": test_python,
         "python_versions": test_other_pythons,
     }
@@ -83,6 +84,15 @@ def run_under_valgrind():
 def build_rust():
     need("cargo", "cargo")
     run(["cargo", "build", "--release", "--offline", "--examples", "--quiet"], SECONDS_TO_BUILD, cwd=RUST)
+
+
+def look_at_rust():
+    """Looks for what clippy finds, which also wants a reason at each unsafe block."""
+    need("cargo", "cargo")
+    if subprocess.run(["cargo", "clippy", "--version"], capture_output=True).returncode != 0:
+        raise LeftOut("clippy is not installed")
+    words = ["--offline", "--quiet", "--all-targets", "--", "-D", "warnings"]
+    run(["cargo", "clippy", *words], SECONDS_TO_BUILD, cwd=RUST)
 
 
 def test_python():

@@ -34,6 +34,8 @@ pub enum Error {
     BadMoment,
     /// A parent or a linked span belongs to another pipeline.
     OtherPipeline,
+    /// The text of an error could not be made: its `Display` panicked, or answered an error.
+    NoText,
 }
 
 impl fmt::Display for Error {
@@ -52,6 +54,7 @@ impl fmt::Display for Error {
             Self::BadSetting(name) => return write!(out, "the setting {name:?} cannot be handed on"),
             Self::BadMoment => "a moment before 1970 or after 2554",
             Self::OtherPipeline => "a span of another pipeline",
+            Self::NoText => "the text of an error could not be made",
         })
     }
 }

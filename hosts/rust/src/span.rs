@@ -10,7 +10,8 @@ use crate::shared::Shared;
 use crate::Error;
 use std::borrow::Cow;
 use std::error;
-use std::fmt;
+use std::fmt::{self, Write};
+use std::panic::{self, AssertUnwindSafe};
 use std::sync::Arc;
 use std::time::SystemTime;
 
@@ -145,9 +146,14 @@ impl Span {
         self
     }
 
-    /// An event `exception` at this moment, with the error's text as its message.
+    /// An event `exception` at this moment, with the error's text as its message. Where its `Display` panics, or fails,
+    /// that counts as a failure, and the message says so.
     pub fn record_error(&self, error: &dyn error::Error) -> &Self {
-        let (moment, message) = (Moment::now(), error.to_string());
+        let moment = Moment::now();
+        let message = text_of(error).unwrap_or_else(|why| {
+            self.shared.note(why);
+            "an error whose text cannot be made".to_owned()
+        });
         self.attempt(|handle, key| handle.record_exception(key, &message, moment));
         self
     }
@@ -213,6 +219,15 @@ impl Span {
             ended.or_else(|error| handle.abandon(key).and(Err(error)))
         });
         self.key = None;
+    }
+}
+
+/// The text of an error, whose `Display` is the service's own.
+fn text_of(error: &dyn error::Error) -> Result<String, Error> {
+    let mut text = String::new();
+    match panic::catch_unwind(AssertUnwindSafe(|| write!(text, "{error}"))) {
+        Ok(Ok(())) => Ok(text),
+        _ => Err(Error::NoText),
     }
 }
 

@@ -2,6 +2,8 @@
 //! What goes wrong is answered or counted, and nothing panics.
 
 use otel_proved::{Error, Extracted, Pipeline, SpanContext};
+use std::error;
+use std::fmt;
 use std::time::{Duration, UNIX_EPOCH};
 
 fn open() -> Pipeline {
@@ -117,4 +119,35 @@ fn attributes_of_a_failed_call_go_to_no_other() {
 fn errors_say_what_is_wrong() {
     assert_eq!(Error::OutOfMemory.to_string(), "out of memory");
     assert_eq!(Error::BadSetting("a b".into()).to_string(), "the setting \"a b\" cannot be handed on");
+}
+
+/// An error without a text.
+#[derive(Debug)]
+enum Mute {
+    Panics,
+    Fails,
+}
+
+impl fmt::Display for Mute {
+    fn fmt(&self, out: &mut fmt::Formatter<'_>) -> fmt::Result {
+        out.write_str("half")?;
+        match self {
+            Self::Panics => panic!("a text that cannot be made"),
+            Self::Fails => Err(fmt::Error),
+        }
+    }
+}
+
+impl error::Error for Mute {}
+
+#[test]
+fn an_error_without_a_text_is_recorded_and_counted() {
+    let pipeline = open();
+    let span = pipeline.tracer("shop").span("GET").start();
+    span.record_error(&Mute::Panics).record_error(&Mute::Fails);
+    span.end();
+    assert_eq!((pipeline.failed_calls(), pipeline.last_failure()), (2, Some(Error::NoText)));
+    let lines = String::from_utf8(pipeline.close().unwrap()).unwrap();
+    assert_eq!(lines.matches("an error whose text cannot be made").count(), 2);
+    assert!(!lines.contains("half"));
 }

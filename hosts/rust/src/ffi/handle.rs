@@ -77,15 +77,17 @@ impl Handle {
         let (key, length) = (attribute.key.as_ptr(), attribute.key.len());
         let raw = &mut self.raw;
         // SAFETY: as above; a truth value in memory is a byte, 0 or 1.
-        let status = match &attribute.value {
-            Value::Text(it) => unsafe { otel_with_text(raw, key, length, it.as_ptr(), it.len()) },
-            Value::Integer(it) => unsafe { otel_with_integer(raw, key, length, *it) },
-            Value::Float(it) => unsafe { otel_with_float(raw, key, length, *it) },
-            Value::Bool(it) => unsafe { otel_with_bool(raw, key, length, u32::from(*it)) },
-            Value::Integers(it) => unsafe { otel_with_integers(raw, key, length, it.as_ptr(), it.len()) },
-            Value::Floats(it) => unsafe { otel_with_floats(raw, key, length, it.as_ptr(), it.len()) },
-            Value::Bools(it) => unsafe { otel_with_bools(raw, key, length, it.as_ptr().cast(), it.len()) },
-            Value::Texts(it) => return self.gather_texts(&attribute.key, it),
+        let status = unsafe {
+            match &attribute.value {
+                Value::Text(it) => otel_with_text(raw, key, length, it.as_ptr(), it.len()),
+                Value::Integer(it) => otel_with_integer(raw, key, length, *it),
+                Value::Float(it) => otel_with_float(raw, key, length, *it),
+                Value::Bool(it) => otel_with_bool(raw, key, length, u32::from(*it)),
+                Value::Integers(it) => otel_with_integers(raw, key, length, it.as_ptr(), it.len()),
+                Value::Floats(it) => otel_with_floats(raw, key, length, it.as_ptr(), it.len()),
+                Value::Bools(it) => otel_with_bools(raw, key, length, it.as_ptr().cast(), it.len()),
+                Value::Texts(it) => return self.gather_texts(&attribute.key, it),
+            }
         };
         check(status)
     }

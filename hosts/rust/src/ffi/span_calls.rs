@@ -96,14 +96,16 @@ impl Handle {
         let (key, length) = (attribute.key.as_ptr(), attribute.key.len());
         let raw = &mut self.raw;
         // SAFETY: as in `handle`.
-        let status = match &attribute.value {
-            Value::Text(it) => unsafe { otel_set_text(raw, span, key, length, it.as_ptr(), it.len()) },
-            Value::Integer(it) => unsafe { otel_set_integer(raw, span, key, length, *it) },
-            Value::Float(it) => unsafe { otel_set_float(raw, span, key, length, *it) },
-            Value::Bool(it) => unsafe { otel_set_bool(raw, span, key, length, u32::from(*it)) },
-            Value::Texts(_) | Value::Integers(_) | Value::Floats(_) | Value::Bools(_) => {
-                self.gather(slice::from_ref(attribute))?;
-                return self.set_attributes(Some(span));
+        let status = unsafe {
+            match &attribute.value {
+                Value::Text(it) => otel_set_text(raw, span, key, length, it.as_ptr(), it.len()),
+                Value::Integer(it) => otel_set_integer(raw, span, key, length, *it),
+                Value::Float(it) => otel_set_float(raw, span, key, length, *it),
+                Value::Bool(it) => otel_set_bool(raw, span, key, length, u32::from(*it)),
+                Value::Texts(_) | Value::Integers(_) | Value::Floats(_) | Value::Bools(_) => {
+                    self.gather(slice::from_ref(attribute))?;
+                    return self.set_attributes(Some(span));
+                }
             }
         };
         check(status)
