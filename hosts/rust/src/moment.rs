@@ -4,7 +4,7 @@
 use crate::Error;
 use std::time::{SystemTime, UNIX_EPOCH};
 
-/// Nanoseconds since 1970.
+/// Nanoseconds since 1970, or of what becomes due since the pipeline was opened.
 #[derive(Clone, Copy, Debug, PartialEq, Eq)]
 pub(crate) struct Moment(u64);
 
@@ -17,6 +17,10 @@ impl Moment {
     pub fn of(time: SystemTime) -> Result<Self, Error> {
         let since = time.duration_since(UNIX_EPOCH).map_err(|_| Error::BadMoment)?;
         u64::try_from(since.as_nanos()).map(Self).map_err(|_| Error::BadMoment)
+    }
+
+    pub fn of_nanoseconds(nanoseconds: u64) -> Self {
+        Self(nanoseconds)
     }
 
     pub fn nanoseconds(self) -> u64 {

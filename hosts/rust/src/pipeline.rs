@@ -3,20 +3,24 @@
 
 use crate::error::CloseError;
 use crate::ffi::{Counts, Handle, TracerKey};
-use crate::moment::Moment;
+use crate::lines::spans_in;
+use crate::notices::About;
 use crate::settings::Builder;
-use crate::shared::Shared;
+use crate::shared::{Follower, Shared};
 use crate::tracer::{Library, Tracer};
 use crate::Error;
 use std::fmt;
-use std::sync::Arc;
-use std::time::SystemTime;
+use std::sync::{Arc, Weak};
+use std::time::Instant;
 
 /// A pipeline, which takes spans and hands out lines of the OpenTelemetry protocol's JSON. Its clones are the same
 /// pipeline. One thread at a time is in a call of it or of its spans; others wait.
 ///
 /// When the last clone is dropped the pipeline is closed, and lines that nobody drained are lost: [`Pipeline::close`]
 /// hands out the last lines. Spans that are open then record nothing more.
+///
+/// Spans that are lost have a notice, a line of text: the first that were dropped, the first batch that was not
+/// exported, and what was lost at the end; of each there is at most one a minute. See [`Pipeline::on_notice`].
 ///
 /// ```
 /// use otel_proved::{Kind, Pipeline};
@@ -47,8 +51,13 @@ struct Owner {
 
 impl Drop for Owner {
     fn drop(&mut self) {
-        // An error says that it was closed before.
-        let _is_closed = self.shared.call(Handle::close);
+        // An error says that it was closed before, or what look() has said.
+        let (lines, open_spans, _is_closed) = self.shared.close();
+        let lost = spans_in(&lines) + open_spans;
+        if lost > 0 {
+            let what = "spans that were open or not drained at the end, and are lost";
+            self.shared.notices.say(About::End, format_args!("{what}: {lost}"));
+        }
     }
 }
 
@@ -89,13 +98,13 @@ impl Pipeline {
 
     /// Exports what waits, into the lines that [`Pipeline::drain`] hands out.
     pub fn flush(&self) -> Result<(), Error> {
-        self.shared().call(Handle::flush)
+        self.shared().look_after(Handle::flush)
     }
 
-    /// Exports what is due at this moment: what waits, once the schedule delay has passed.
-    pub fn run_due(&self, now: SystemTime) -> Result<(), Error> {
-        let moment = Moment::of(now)?;
-        self.shared().call(|handle| handle.run(moment))
+    /// Exports what is due at this moment: what waits, once the schedule delay has passed. It goes by the clock of
+    /// [`Instant`], which never goes back, and not by the one that spans begin and end by, which is set now and then.
+    pub fn run_due(&self, now: Instant) -> Result<(), Error> {
+        self.shared().run(now)
     }
 
     /// Hands out what was exported, and forgets it: whole lines, each with a line feed after it.
@@ -118,6 +127,33 @@ impl Pipeline {
         self.shared().failures().last
     }
 
+    /// How many spans were in the lines that [`Pipeline::close`] handed back.
+    pub fn returned_spans(&self) -> u64 {
+        self.shared().returned_spans()
+    }
+
+    /// Has notices go to a callback, and not to standard error, as lines without their ends; also those of senders. It
+    /// is called in the middle of the work of any thread, and what it panics with goes no further.
+    ///
+    /// ```
+    /// # fn main() -> Result<(), otel_proved::Error> {
+    /// let pipeline = otel_proved::Pipeline::builder().open()?;
+    /// pipeline.on_notice(|text| eprintln!("tracing: {text}"));
+    /// # Ok(())
+    /// # }
+    /// ```
+    pub fn on_notice(&self, callback: impl Fn(&str) + Send + Sync + 'static) {
+        self.shared().notices.set(Arc::new(callback));
+    }
+
+    pub(crate) fn say(&self, about: About, what: fmt::Arguments<'_>) {
+        self.shared().notices.say(about, what);
+    }
+
+    pub(crate) fn follow(&self, follower: Weak<dyn Follower>) {
+        self.shared().follow(follower);
+    }
+
     /// Counts a failure that nobody is answered.
     pub(crate) fn note(&self, error: Error) {
         self.shared().note(error);
@@ -125,11 +161,12 @@ impl Pipeline {
 
     /// Exports what waits, and nothing afterwards. Lines can still be drained.
     pub fn shutdown(&self) -> Result<(), Error> {
-        self.shared().call(Handle::shutdown)
+        self.shared().look_after(Handle::shutdown)
     }
 
     /// Exports what waits, where it was not shut down before, hands out the last lines, and closes the pipeline for all
-    /// its clones. Where not all is exported the error has the lines; where it was closed before there are none.
+    /// its clones. Where not all is exported the error has the lines; where it was closed before there are none. Spans
+    /// in them are counted by [`Pipeline::returned_spans`].
     ///
     /// ```
     /// # fn main() -> Result<(), Box<dyn std::error::Error>> {
@@ -141,18 +178,12 @@ impl Pipeline {
     /// # }
     /// ```
     pub fn close(self) -> Result<Vec<u8>, CloseError> {
-        self.shared().call(|handle| {
-            let exported = if handle.is_shut_down() { Ok(()) } else { handle.shutdown() };
-            let (lines, drained) = match handle.drain() {
-                Ok(lines) => (lines, Ok(())),
-                Err(error) => (Vec::new(), Err(error)),
-            };
-            let closed = handle.close();
-            match exported.and(drained).and(closed) {
-                Ok(()) => Ok(lines),
-                Err(error) => Err(CloseError { lines, error }),
-            }
-        })
+        let (lines, _open_spans, closed) = self.shared().close();
+        self.shared().returned(spans_in(&lines));
+        match closed {
+            Ok(()) => Ok(lines),
+            Err(error) => Err(CloseError { lines, error }),
+        }
     }
 }
 

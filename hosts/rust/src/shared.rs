@@ -1,17 +1,39 @@
 // SPDX-License-Identifier: Apache-2.0
-//! What pipelines, tracers and spans of one pipeline share: its handle after a lock, and a count of calls that failed.
+//! What pipelines, tracers and spans of one pipeline share: its handle after a lock, a count of calls that failed, and
+//! who is told of what.
 
-use crate::ffi::Handle;
+use crate::ffi::{Counts, Handle};
+use crate::moment::Moment;
+use crate::notices::{About, Notices};
 use crate::Error;
-use std::sync::{Mutex, MutexGuard, PoisonError};
+use std::sync::atomic::{AtomicU64, Ordering};
+use std::sync::{Mutex, MutexGuard, PoisonError, Weak};
+use std::time::Instant;
+
+/// After so many ends whoever takes the lines is woken.
+const ENDS_TO_WAKE: u64 = 256;
+
+/// What takes the lines of a pipeline.
+pub(crate) trait Follower: Send + Sync {
+    /// Is told that some hundred spans have ended. It is called in the middle of the work, and does little.
+    fn wake(&self);
+}
 
 pub(crate) struct Shared {
     inner: Mutex<Inner>,
+    followers: Mutex<Vec<Weak<dyn Follower>>>,
+    ends: AtomicU64,
+    returned_spans: AtomicU64,
+    /// From which moment on time is counted that becomes due.
+    opened: Instant,
+    pub notices: Notices,
 }
 
 struct Inner {
     handle: Handle,
     failures: Failures,
+    /// What was lost when it was looked last.
+    seen: Lost,
 }
 
 /// Calls that failed and answered no error.
@@ -21,9 +43,23 @@ pub(crate) struct Failures {
     pub last: Option<Error>,
 }
 
+/// What a pipeline lost.
+#[derive(Clone, Copy, Default)]
+struct Lost {
+    spans: u64,
+    batches: u64,
+}
+
 impl Shared {
     pub fn new(handle: Handle) -> Self {
-        Self { inner: Mutex::new(Inner { handle, failures: Failures::default() }) }
+        Self {
+            inner: Mutex::new(Inner { handle, failures: Failures::default(), seen: Lost::default() }),
+            followers: Mutex::default(),
+            ends: AtomicU64::new(0),
+            returned_spans: AtomicU64::new(0),
+            opened: Instant::now(),
+            notices: Notices::default(),
+        }
     }
 
     /// A thread that panicked left the handle between two calls, so it is as good as before.
@@ -49,6 +85,91 @@ impl Shared {
 
     pub fn failures(&self) -> Failures {
         self.lock().failures.clone()
+    }
+
+    /// Exports what is due at a moment, by a clock that never goes back.
+    pub fn run(&self, now: Instant) -> Result<(), Error> {
+        let since = now.saturating_duration_since(self.opened).as_nanos();
+        let moment = Moment::of_nanoseconds(u64::try_from(since).unwrap_or(u64::MAX));
+        self.look_after(|handle| handle.run(moment))
+    }
+
+    /// Carries out calls that export, and says so where spans were lost since it looked last.
+    pub fn look_after(&self, calls: impl FnOnce(&mut Handle) -> Result<(), Error>) -> Result<(), Error> {
+        let answer = self.call(calls);
+        self.look();
+        answer
+    }
+
+    fn look(&self) {
+        let lost = self.lock().newly_lost();
+        self.say(lost);
+    }
+
+    fn say(&self, lost: Lost) {
+        let Lost { spans, batches } = lost;
+        if spans > 0 {
+            let why = "the queue was full or memory ran out";
+            self.notices.say(About::Drops, format_args!("spans that are lost, since {why}: {spans}"));
+        }
+        if batches > 0 {
+            let what = "batches of spans that were not exported, and are lost";
+            self.notices.say(About::Batches, format_args!("{what}: {batches}"));
+        }
+    }
+
+    /// Closes the pipeline, and answers its last lines, and how many spans were open and are lost.
+    pub fn close(&self) -> (Vec<u8>, u64, Result<(), Error>) {
+        let mut inner = self.lock();
+        let handle = &mut inner.handle;
+        let exported = if handle.is_shut_down() { Ok(()) } else { handle.shutdown() };
+        let open_spans = handle.count().map_or(0, |it| it.open_spans);
+        let (lines, drained) = match handle.drain() {
+            Ok(lines) => (lines, Ok(())),
+            Err(error) => (Vec::new(), Err(error)),
+        };
+        let lost = inner.newly_lost();
+        let closed = inner.handle.close();
+        drop(inner);
+        self.say(lost);
+        (lines, open_spans, exported.and(drained).and(closed))
+    }
+
+    pub fn follow(&self, follower: Weak<dyn Follower>) {
+        let mut followers = self.followers.lock().unwrap_or_else(PoisonError::into_inner);
+        followers.retain(|it| it.strong_count() > 0);
+        followers.push(follower);
+    }
+
+    /// A span has ended.
+    pub fn ended(&self) {
+        if (self.ends.fetch_add(1, Ordering::Relaxed) + 1) % ENDS_TO_WAKE == 0 {
+            let followers = self.followers.lock().unwrap_or_else(PoisonError::into_inner);
+            followers.iter().filter_map(Weak::upgrade).for_each(|it| it.wake());
+        }
+    }
+
+    /// Spans were handed back.
+    pub fn returned(&self, spans: u64) {
+        self.returned_spans.fetch_add(spans, Ordering::Relaxed);
+    }
+
+    pub fn returned_spans(&self) -> u64 {
+        self.returned_spans.load(Ordering::Relaxed)
+    }
+}
+
+impl Inner {
+    /// All that was lost, where it is more than when it was looked last.
+    fn newly_lost(&mut self) -> Lost {
+        let Ok(counts) = self.handle.count() else {
+            return Lost::default();
+        };
+        let Counts { dropped_spans, refused_spans, lost_batches, .. } = counts;
+        let lost = Lost { spans: dropped_spans.saturating_add(refused_spans), batches: lost_batches };
+        let seen = std::mem::replace(&mut self.seen, lost);
+        let if_more = |now, before| if now > before { now } else { 0 };
+        Lost { spans: if_more(lost.spans, seen.spans), batches: if_more(lost.batches, seen.batches) }
     }
 }
 

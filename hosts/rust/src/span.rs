@@ -219,6 +219,7 @@ impl Span {
             ended.or_else(|error| handle.abandon(key).and(Err(error)))
         });
         self.key = None;
+        self.shared.ended();
     }
 }
 

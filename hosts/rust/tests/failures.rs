@@ -97,7 +97,6 @@ fn moments_out_of_range_are_refused() {
     let tracer = pipeline.tracer("shop");
     let before = UNIX_EPOCH - Duration::from_secs(1);
     assert_eq!(tracer.span("GET").start_time(before).try_start().unwrap_err(), Error::BadMoment);
-    assert_eq!(pipeline.run_due(before), Err(Error::BadMoment));
     tracer.span("GET").start().end_at(before);
     assert_eq!((pipeline.failed_calls(), pipeline.last_failure()), (1, Some(Error::BadMoment)));
     assert_eq!(pipeline.counts().unwrap().open_spans, 0);

@@ -5,7 +5,7 @@ use otel_proved::{Attribute, Error, Extracted, Kind, Library, Pipeline, Span, St
 use std::collections::HashMap;
 use std::io;
 use std::thread;
-use std::time::{Duration, SystemTime, UNIX_EPOCH};
+use std::time::{Duration, Instant, UNIX_EPOCH};
 
 const TRACE: &str = "0af7651916cd43dd8448eb211c80319c";
 const CALLER: &str = "00-0af7651916cd43dd8448eb211c80319c-b7ad6b7169203331-01";
@@ -211,7 +211,7 @@ fn spans_are_counted_where_they_are() {
 fn what_is_due_is_exported() {
     let pipeline = batch();
     root(&pipeline.tracer("shop")).end();
-    let now = SystemTime::now();
+    let now = Instant::now();
     pipeline.run_due(now).unwrap();
     pipeline.run_due(now + Duration::from_secs(60)).unwrap();
     assert_eq!(pipeline.counts().unwrap().waiting_spans, 0);

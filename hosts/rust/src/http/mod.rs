@@ -7,8 +7,9 @@ mod desk;
 mod endpoint;
 mod message;
 mod post;
+mod posting;
 mod sender;
-mod worker;
+mod taking;
 
 use std::time::{Duration, Instant};
 

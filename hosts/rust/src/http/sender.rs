@@ -4,13 +4,15 @@
 use super::desk::{Desk, SenderCounts};
 use super::endpoint::{Endpoint, EndpointError, OF_ALL, OF_TRACES};
 use super::moment_after;
-use super::worker::Worker;
+use super::posting::Posting;
+use super::taking::Taking;
+use crate::shared::Follower;
 use crate::Pipeline;
 use std::env;
 use std::error;
 use std::fmt;
 use std::io;
-use std::sync::Arc;
+use std::sync::{Arc, Weak};
 use std::thread::{self, JoinHandle};
 use std::time::Duration;
 
@@ -19,7 +21,7 @@ const OF_EXPORTERS: &str = "OTEL_EXPORTER_";
 /// How patient a sender is.
 #[derive(Clone, Debug)]
 pub struct Limits {
-    /// How often the pipeline is drained: each second.
+    /// How often the pipeline is drained: each second, and when some hundred spans have ended.
     pub interval: Duration,
     /// How long a request may take: 10 seconds.
     pub request_limit: Duration,
@@ -50,12 +52,12 @@ impl Default for Limits {
     }
 }
 
-/// Sends a pipeline's lines to a collector, from a thread of its own: it exports what is due, drains, and posts each
-/// line.
+/// Sends a pipeline's lines to a collector, from two threads of its own: one has the pipeline export what is due, by a
+/// clock that never goes back, and drains it, also while the other one posts a line.
 ///
 /// A line is tried again where there is no answer, and at the statuses 429, 502, 503 and 504. The head of an answer
 /// decides, also where its body is cut. A line whose answer was lost may have been taken, and then comes twice. What is
-/// given up is counted.
+/// given up is counted, and has a [notice](Pipeline::on_notice).
 ///
 /// It keeps its pipeline open. When it is dropped it sends what waits, as long as its limits allow; spans that end
 /// afterwards it does not send.
@@ -75,8 +77,8 @@ impl Default for Limits {
 #[derive(Debug)]
 pub struct HttpSender {
     desk: Arc<Desk>,
-    /// None once the thread has ended.
-    thread: Option<JoinHandle<()>>,
+    /// That which takes lines and that which posts them, until they have ended.
+    threads: Vec<JoinHandle<()>>,
     closing_limit: Duration,
     ignored_settings: Vec<String>,
 }
@@ -93,11 +95,32 @@ impl HttpSender {
     /// Starts a sender.
     pub fn start(pipeline: &Pipeline, endpoint: Endpoint, limits: Limits) -> Result<Self, StartError> {
         let desk = Arc::new(Desk::default());
-        let closing_limit = limits.closing_limit;
-        let worker = Worker { pipeline: pipeline.clone(), endpoint, limits, desk: Arc::clone(&desk) };
+        let mut sender = Self {
+            desk: Arc::clone(&desk),
+            threads: Vec::new(),
+            closing_limit: limits.closing_limit,
+            ignored_settings: Vec::new(),
+        };
+        let taking = Taking {
+            pipeline: pipeline.clone(),
+            interval: limits.interval,
+            kept_spans: limits.kept_spans,
+            goal: endpoint.to_string(),
+            desk: Arc::clone(&desk),
+        };
+        let posting = Posting { pipeline: pipeline.clone(), endpoint, limits, desk: Arc::clone(&desk) };
+        // Where the second one does not start the sender is dropped, and the first one ends.
+        sender.spawn(move || taking.run())?;
+        sender.spawn(move || posting.run())?;
+        let follower: Weak<dyn Follower> = Arc::downgrade(&(desk as Arc<dyn Follower>));
+        pipeline.follow(follower);
+        Ok(sender)
+    }
+
+    fn spawn(&mut self, work: impl FnOnce() + Send + 'static) -> Result<(), StartError> {
         let named = thread::Builder::new().name("otel_proved".to_owned());
-        let thread = named.spawn(move || worker.run()).map_err(StartError::Thread)?;
-        Ok(Self { desk, thread: Some(thread), closing_limit, ignored_settings: Vec::new() })
+        self.threads.push(named.spawn(work).map_err(StartError::Thread)?);
+        Ok(())
     }
 
     /// The names of variables `OTEL_EXPORTER_*` that say nothing to a sender made by [`HttpSender::from_env`].
@@ -132,12 +155,13 @@ impl HttpSender {
     }
 
     fn finish(&mut self) {
-        let Some(thread) = self.thread.take() else {
-            return;
-        };
         self.desk.close_by(moment_after(self.closing_limit));
-        if thread.join().is_err() {
-            self.desk.fault("the thread of the sender panicked".to_owned());
+        for thread in self.threads.drain(..) {
+            if thread.join().is_err() {
+                self.desk.fault("a thread of the sender panicked".to_owned());
+            }
+            // After the first one no lines come.
+            self.desk.end_lines();
         }
     }
 }
