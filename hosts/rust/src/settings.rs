@@ -14,6 +14,18 @@ use std::time::SystemTime;
 const OURS: &str = "OTEL_";
 const OF_EXPORTERS: &str = "OTEL_EXPORTER_";
 
+/// Variables for who builds a host or loads the library.
+const OF_BUILDS: [&str; 2] = ["OTEL_C_DIR", "OTEL_C_LIBRARY"];
+
+const RESOURCE: &str = "OTEL_RESOURCE_ATTRIBUTES";
+
+/// What the resource says of the SDK, which OpenTelemetry asks of each that is not its own.
+const ABOUT: &str = concat!(
+    "telemetry.sdk.name=otel_proved,telemetry.sdk.language=rust,telemetry.sdk.version=",
+    env!("CARGO_PKG_VERSION"),
+    ","
+);
+
 /// Settings of a pipeline, by the names that variables of the environment have, and the seed of its ids.
 #[derive(Clone, Debug, Default)]
 pub struct Builder {
@@ -35,6 +47,12 @@ impl Setting {
         let is_name = !self.name.is_empty() && !self.name.contains(['=', '\n']);
         is_name && !self.value.contains('\n') && !self.value.ends_with('\r')
     }
+
+    fn line(&self) -> String {
+        // Of two attributes the later counts: the user's.
+        let about = if self.name == RESOURCE { ABOUT } else { "" };
+        format!("{}={about}{}\n", self.name, self.value)
+    }
 }
 
 impl Builder {
@@ -44,8 +62,8 @@ impl Builder {
         self
     }
 
-    /// Every variable `OTEL_*` of the environment is a setting, but for those of exporters, `OTEL_EXPORTER_*`. A
-    /// variable that is not UTF-8 or no single line counts as a setting that was ignored.
+    /// Every variable `OTEL_*` of the environment is a setting, but for those of exporters, `OTEL_EXPORTER_*`, and of
+    /// builds, `OTEL_C_DIR` and `OTEL_C_LIBRARY`. A variable that is not UTF-8 or no single line counts as a setting that was ignored.
     pub fn from_env(self) -> Self {
         self.variables(env::vars_os())
     }
@@ -53,7 +71,7 @@ impl Builder {
     fn variables(mut self, variables: impl IntoIterator<Item = (OsString, OsString)>) -> Self {
         for (name, value) in variables {
             let name = name.to_string_lossy().into_owned();
-            if !name.starts_with(OURS) || name.starts_with(OF_EXPORTERS) {
+            if !name.starts_with(OURS) || name.starts_with(OF_EXPORTERS) || OF_BUILDS.contains(&&*name) {
                 continue;
             }
             let setting = value.into_string().map(|value| Setting { name: name.clone(), value });
@@ -78,11 +96,17 @@ impl Builder {
 
     /// Opens the pipeline. A setting that nobody knows or whose value does not read is ignored, and named by
     /// [`Pipeline::ignored_settings`].
-    pub fn open(self) -> Result<Pipeline, Error> {
+    ///
+    /// The resource says by `telemetry.sdk.name`, `.version` and `.language` that the SDK is this package, unless
+    /// `OTEL_RESOURCE_ATTRIBUTES` says others.
+    pub fn open(mut self) -> Result<Pipeline, Error> {
         if let Some(bad) = self.settings.iter().find(|it| !it.is_a_line()) {
             return Err(Error::BadSetting(bad.name.clone()));
         }
-        let lines: String = self.settings.iter().map(|it| format!("{}={}\n", it.name, it.value)).collect();
+        if !self.settings.iter().any(|it| it.name == RESOURCE) {
+            self.set(Setting { name: RESOURCE.to_owned(), value: String::new() });
+        }
+        let lines: String = self.settings.iter().map(Setting::line).collect();
         let mut handle = Handle::open(&lines, self.seed.unwrap_or_else(random_seed))?;
         let names = String::from_utf8(handle.ignored_settings()?).map_err(|_| Error::NotUtf8)?;
         let ignored = names.lines().map(str::to_owned).chain(self.left_out).collect();
@@ -112,10 +136,11 @@ mod tests {
     }
 
     #[test]
-    fn variables_of_exporters_are_not_handed_on() {
+    fn variables_of_others_are_not_handed_on() {
         let builder = of_variables(&[
             ("OTEL_SERVICE_NAME", "shop"),
             ("OTEL_EXPORTER_OTLP_ENDPOINT", "http://localhost:4318"),
+            ("OTEL_C_DIR", "bin"),
             ("HOME", "here"),
         ]);
         assert_eq!(names_of(&builder), ["OTEL_SERVICE_NAME"]);

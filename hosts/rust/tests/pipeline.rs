@@ -1,7 +1,7 @@
 // SPDX-License-Identifier: Apache-2.0
 //! Spans go in, lines come out.
 
-use otel_proved::{Attribute, Error, Extracted, Kind, Library, Pipeline, Span, Status, Tracer};
+use otel_proved::{Attribute, Builder, Error, Extracted, Kind, Library, Pipeline, Span, Status, Tracer};
 use std::collections::HashMap;
 use std::io;
 use std::thread;
@@ -242,6 +242,23 @@ fn threads_share_a_pipeline() {
         let attribute = format!(r#"[{{"key":"thread","value":{{"intValue":"{number}"}}}}]"#);
         assert_eq!(times(&lines, &attribute), 2 * SPANS);
     }
+}
+
+#[test]
+fn the_resource_says_what_the_sdk_is() {
+    let said = |settings: Builder| {
+        let pipeline = settings.open().unwrap();
+        root(&pipeline.tracer("shop")).end();
+        lines_of(pipeline)
+    };
+    let of = |key: &str, value: &str| format!(r#"{{"key":"{key}","value":{{"stringValue":"{value}"}}}}"#);
+    let lines = said(Pipeline::builder());
+    has(&lines, &of("telemetry.sdk.name", "otel_proved"));
+    has(&lines, &of("telemetry.sdk.version", env!("CARGO_PKG_VERSION")));
+    has(&lines, &of("telemetry.sdk.language", "rust"));
+    let lines = said(Pipeline::builder().setting("OTEL_RESOURCE_ATTRIBUTES", "a=b,telemetry.sdk.name=mine"));
+    has(&lines, &of("a", "b"));
+    has(&lines, &of("telemetry.sdk.name", "mine"));
 }
 
 #[test]
