@@ -1,7 +1,7 @@
 // SPDX-License-Identifier: Apache-2.0
 //! Lines reach a collector, or are counted as lost. The collector is a stand-in on the loopback.
 
-use otel_proved::http::{Endpoint, HttpSender, Limits, Message};
+use otel_proved::http::{Endpoint, EndpointError, HttpSender, Limits, Message};
 use otel_proved::Pipeline;
 use std::collections::VecDeque;
 use std::io::{BufReader, Write};
@@ -95,6 +95,20 @@ fn lines_are_posted_as_the_protocol_has_it() {
     assert!(request.body.ends_with(b"}"));
     let counts = sender.close();
     assert_eq!((counts.sent_lines, counts.sent_spans, counts.lost_lines), (1, 3, 0));
+}
+
+#[test]
+fn headers_go_along() {
+    let (collector, pipeline) = (Collector::start(&[]), one_line_a_span());
+    let endpoint = collector.endpoint().with_header("x-team", "old").unwrap().with_header("X-Team", "shop").unwrap();
+    assert!(matches!(endpoint.clone().with_header("host", "b"), Err(EndpointError::BadHeader(_))));
+    assert!(endpoint.clone().with_header("a", "b\r\nc: d").is_err());
+    let sender = HttpSender::start(&pipeline, endpoint, short()).unwrap();
+    end_spans(&pipeline, 1);
+    assert_eq!(sender.close().sent_spans, 1);
+    let request = collector.received.lock().unwrap()[0].clone();
+    assert_eq!(request.header("x-team"), Some("shop"));
+    assert_eq!(request.headers.iter().filter(|(name, _)| name.eq_ignore_ascii_case("x-team")).count(), 1);
 }
 
 #[test]

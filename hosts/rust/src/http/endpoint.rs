@@ -2,6 +2,7 @@
 //! Where requests go.
 
 use super::connection::Connection;
+use super::header_list::Header;
 use std::env;
 use std::error;
 use std::fmt;
@@ -30,9 +31,10 @@ pub struct Endpoint {
     host: String,
     port: u16,
     path: String,
+    headers: Vec<Header>,
 }
 
-/// Why a text, which each has, is no endpoint.
+/// Why a text, which each has, is no endpoint, or no name of a header.
 #[derive(Clone, Debug, PartialEq, Eq)]
 #[non_exhaustive]
 pub enum EndpointError {
@@ -42,6 +44,8 @@ pub enum EndpointError {
     BadPort(String),
     /// A character that is none of a URL, a name of a user, or a `#`; a `?` where a path is added.
     BadCharacter(String),
+    /// A header that no request has, or that a request says itself.
+    BadHeader(String),
 }
 
 impl Endpoint {
@@ -54,7 +58,7 @@ impl Endpoint {
         let (host, port) = split_authority(authority).ok_or_else(|| EndpointError::NoHost(url.to_owned()))?;
         let port = port.map_or(Some(PORT), read_port).ok_or_else(|| EndpointError::BadPort(url.to_owned()))?;
         let slash = if path.starts_with('/') { "" } else { "/" };
-        Ok(Self { host: host.to_owned(), port, path: format!("{slash}{path}") })
+        Ok(Self { host: host.to_owned(), port, path: format!("{slash}{path}"), headers: Vec::new() })
     }
 
     /// The endpoint of a collector, below whose URL traces are posted.
@@ -78,6 +82,30 @@ impl Endpoint {
             Some(url) => Self::parse(&url),
             None => Self::below(of_all.filter(is_set).as_deref().unwrap_or(DEFAULT)),
         }
+    }
+
+    /// The same, with a header in each request; it replaces one of the same name.
+    ///
+    /// ```
+    /// use otel_proved::http::Endpoint;
+    /// let endpoint = Endpoint::parse("http://localhost:4318/v1/traces")?.with_header("x-team", "shop")?;
+    /// # Ok::<(), otel_proved::http::EndpointError>(())
+    /// ```
+    pub fn with_header(self, name: &str, value: &str) -> Result<Self, EndpointError> {
+        let header = Header::new(name, value).ok_or_else(|| EndpointError::BadHeader(name.to_owned()))?;
+        Ok(self.with_headers([header]))
+    }
+
+    pub(super) fn with_headers(mut self, headers: impl IntoIterator<Item = Header>) -> Self {
+        for header in headers {
+            self.headers.retain(|it| !it.name.eq_ignore_ascii_case(&header.name));
+            self.headers.push(header);
+        }
+        self
+    }
+
+    pub(super) fn headers(&self) -> &[Header] {
+        &self.headers
     }
 
     pub fn host(&self) -> &str {
@@ -135,6 +163,7 @@ impl fmt::Display for Endpoint {
 impl fmt::Display for EndpointError {
     fn fmt(&self, out: &mut fmt::Formatter<'_>) -> fmt::Result {
         let (url, why) = match self {
+            Self::BadHeader(name) => return write!(out, "no request may have the header {name:?} with this value"),
             Self::NotHttp(url) => (url, "only http is spoken here"),
             Self::NoHost(url) => (url, "it names no host"),
             Self::BadPort(url) => (url, "its port is no number from 1 to 65535"),
@@ -151,7 +180,7 @@ mod tests {
     use super::*;
 
     fn of(host: &str, port: u16, path: &str) -> Result<Endpoint, EndpointError> {
-        Ok(Endpoint { host: host.into(), port, path: path.into() })
+        Ok(Endpoint { host: host.into(), port, path: path.into(), headers: Vec::new() })
     }
 
     #[test]

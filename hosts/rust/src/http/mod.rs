@@ -5,6 +5,7 @@
 mod connection;
 mod desk;
 mod endpoint;
+mod header_list;
 mod message;
 mod post;
 mod posting;

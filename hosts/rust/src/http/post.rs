@@ -35,9 +35,10 @@ fn exchange(endpoint: &Endpoint, line: &[u8], limit: Duration) -> io::Result<Mes
 
 fn write_request(connection: &mut Connection, endpoint: &Endpoint, line: &[u8]) -> io::Result<()> {
     let (path, authority, length) = (endpoint.path(), endpoint.authority(), line.len());
+    let more: String = endpoint.headers().iter().map(|it| format!("{}: {}\r\n", it.name, it.value)).collect();
     let head = format!(
         "POST {path} HTTP/1.1\r\nhost: {authority}\r\ncontent-type: application/json\r\n\
-         content-length: {length}\r\nconnection: close\r\n\r\n"
+         content-length: {length}\r\nconnection: close\r\n{more}\r\n"
     );
     connection.write_all(head.as_bytes())?;
     connection.write_all(line)?;

@@ -3,6 +3,7 @@
 
 use super::desk::{Desk, SenderCounts};
 use super::endpoint::{Endpoint, EndpointError, OF_ALL, OF_TRACES};
+use super::header_list;
 use super::moment_after;
 use super::posting::Posting;
 use super::taking::Taking;
@@ -84,11 +85,15 @@ pub struct HttpSender {
 }
 
 impl HttpSender {
-    /// Starts a sender to [`Endpoint::from_env`].
+    /// Starts a sender to [`Endpoint::from_env`], with the headers of `OTEL_EXPORTER_OTLP_TRACES_HEADERS` or
+    /// `OTEL_EXPORTER_OTLP_HEADERS`, lists such as `authorization=Bearer%20abc,x-team=shop`. A list that does not read
+    /// is ignored.
     pub fn from_env(pipeline: &Pipeline) -> Result<Self, StartError> {
         let endpoint = Endpoint::from_env().map_err(StartError::Endpoint)?;
-        let mut sender = Self::start(pipeline, endpoint, Limits::default())?;
+        let (headers, unread) = header_list::of_environment().map_or_else(|it| (Vec::new(), Some(it)), |it| (it, None));
+        let mut sender = Self::start(pipeline, endpoint.with_headers(headers), Limits::default())?;
         sender.ignored_settings = ignored(env::vars_os().map(|(name, _)| name.to_string_lossy().into_owned()));
+        sender.ignored_settings.extend(unread.map(str::to_owned));
         Ok(sender)
     }
 
@@ -123,7 +128,7 @@ impl HttpSender {
         Ok(())
     }
 
-    /// The names of variables `OTEL_EXPORTER_*` that say nothing to a sender made by [`HttpSender::from_env`].
+    /// The names of variables `OTEL_EXPORTER_*` that a sender made by [`HttpSender::from_env`] did not read.
     pub fn ignored_settings(&self) -> &[String] {
         &self.ignored_settings
     }
@@ -173,7 +178,8 @@ impl Drop for HttpSender {
 }
 
 fn ignored(names: impl Iterator<Item = String>) -> Vec<String> {
-    names.filter(|it| it.starts_with(OF_EXPORTERS) && it != OF_TRACES && it != OF_ALL).collect()
+    let read = [OF_TRACES, OF_ALL, header_list::OF_TRACES, header_list::OF_ALL];
+    names.filter(|it| it.starts_with(OF_EXPORTERS) && !read.contains(&&**it)).collect()
 }
 
 /// Why a sender did not start.
@@ -202,8 +208,8 @@ mod tests {
 
     #[test]
     fn what_the_sender_does_not_read_is_named() {
-        let names = ["OTEL_EXPORTER_OTLP_ENDPOINT", "OTEL_EXPORTER_OTLP_HEADERS", "OTEL_SERVICE_NAME"];
-        let ignored = ignored(names.map(str::to_owned).into_iter());
-        assert_eq!(ignored, ["OTEL_EXPORTER_OTLP_HEADERS"]);
+        let read = ["OTEL_EXPORTER_OTLP_ENDPOINT", "OTEL_EXPORTER_OTLP_HEADERS", "OTEL_SERVICE_NAME"];
+        let names = read.into_iter().chain(["OTEL_EXPORTER_OTLP_TIMEOUT"]);
+        assert_eq!(ignored(names.map(str::to_owned)), ["OTEL_EXPORTER_OTLP_TIMEOUT"]);
     }
 }
