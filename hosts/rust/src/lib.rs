@@ -5,6 +5,7 @@
 
 mod attributes;
 mod context;
+mod current;
 mod error;
 #[allow(unsafe_code)]
 mod ffi;
@@ -21,6 +22,7 @@ mod tracer;
 
 pub use attributes::{Attribute, Value};
 pub use context::{SpanContext, SpanId, TraceFlags, TraceId};
+pub use current::{current_span, Current, CurrentSpan};
 pub use error::{CloseError, Error};
 pub use ffi::Counts;
 pub use headers::Extracted;

@@ -3,6 +3,7 @@
 
 use crate::attributes::{Attribute, Value};
 use crate::context::SpanContext;
+use crate::current::Current;
 use crate::ffi::{Handle, SpanIdentity, SpanKey};
 use crate::headers::{self, Extracted};
 use crate::moment::Moment;
@@ -13,9 +14,11 @@ use std::error;
 use std::fmt::{self, Write};
 use std::panic::{self, AssertUnwindSafe};
 use std::sync::Arc;
+use std::thread;
 use std::time::SystemTime;
 
 /// Work that is traced. It ends when it is dropped, at that moment, and is handed on for export where it is sampled.
+/// Where it is dropped by a panic it is an error, with an event `exception`.
 ///
 /// No call of a span panics or answers an error: what fails is counted by
 /// [`Pipeline::failed_calls`](crate::Pipeline::failed_calls). A span does not keep its pipeline open.
@@ -24,6 +27,8 @@ pub struct Span {
     shared: Arc<Shared>,
     /// None where the span did not start, or has ended.
     key: Option<SpanKey>,
+    /// Whether it started in a panic, as what cleans up does.
+    began_in_panic: bool,
 }
 
 /// A span to be a parent or to be linked.
@@ -61,12 +66,37 @@ impl<'a> Status<'a> {
 
 impl Span {
     pub(crate) fn new(shared: Arc<Shared>, key: SpanKey) -> Self {
-        Self { shared, key: Some(key) }
+        Self { shared, key: Some(key), began_in_panic: thread::panicking() }
     }
 
     /// A span that did not start.
     pub(crate) fn none(shared: Arc<Shared>) -> Self {
-        Self { shared, key: None }
+        Self { shared, key: None, began_in_panic: false }
+    }
+
+    /// Lets the span be, which somebody else has.
+    pub(crate) fn disown(&mut self) {
+        self.key = None;
+    }
+
+    /// Makes the span the current one of this thread, until the guard is dropped.
+    ///
+    /// ```
+    /// # fn main() -> Result<(), otel_proved::Error> {
+    /// # let pipeline = otel_proved::Pipeline::builder().open()?;
+    /// # let tracer = pipeline.tracer("shop");
+    /// let request = tracer.span("GET /cart").start();
+    /// let current = request.enter();
+    /// let load = tracer.span("load cart").start(); // A child of the request.
+    /// assert_eq!(load.context().trace_id, request.context().trace_id);
+    /// drop(current);
+    /// let other = tracer.span("other").start();
+    /// assert_ne!(other.context().trace_id, request.context().trace_id);
+    /// # Ok(())
+    /// # }
+    /// ```
+    pub fn enter(&self) -> Current<'_> {
+        Current::enter(self.key.map(|key| (&self.shared, key)))
     }
 
     /// The key in a pipeline, where the span is of that one.
@@ -193,8 +223,10 @@ impl Span {
     }
 
     /// Ends the span now.
-    pub fn end(self) {
-        drop(self);
+    pub fn end(mut self) {
+        if self.key.is_some() {
+            self.end_once(Moment::now());
+        }
     }
 
     /// Ends the span at a moment. One before 1970 or after 2554 counts as a failure, and the span ends now.
@@ -234,9 +266,15 @@ fn text_of(error: &dyn error::Error) -> Result<String, Error> {
 
 impl Drop for Span {
     fn drop(&mut self) {
-        if self.key.is_some() {
-            self.end_once(Moment::now());
+        if self.key.is_none() {
+            return;
         }
+        let now = Moment::now();
+        if thread::panicking() && !self.began_in_panic {
+            self.attempt(|handle, key| handle.record_exception(key, "a panic left the scope of the span", now));
+            self.set_status(Status::error(""));
+        }
+        self.end_once(now);
     }
 }
 

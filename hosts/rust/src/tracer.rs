@@ -2,6 +2,7 @@
 //! Tracers, and how a span starts.
 
 use crate::attributes::{Attribute, Value};
+use crate::current;
 use crate::ffi::{ParentOf, SpanStart, TracerKey};
 use crate::headers::Extracted;
 use crate::moment::Moment;
@@ -62,13 +63,14 @@ impl Tracer {
         Self { shared, key }
     }
 
-    /// A span of this name, to be started: without more said it is a root of the kind `Internal`.
+    /// A span of this name, to be started: without more said it is of the kind `Internal`, and a child of the current
+    /// span of the thread, where that is of this pipeline, or else a root.
     pub fn span<'a>(&'a self, name: impl Into<Cow<'a, str>>) -> SpanBuilder<'a> {
         SpanBuilder {
             tracer: self,
             name: name.into(),
             kind: Kind::default(),
-            parent: None,
+            parent: Parent::Current,
             attributes: Vec::new(),
             start_time: None,
         }
@@ -81,6 +83,15 @@ impl fmt::Debug for Tracer {
     }
 }
 
+/// Whose child a span is to be.
+#[derive(Debug)]
+enum Parent<'a> {
+    /// That of the current span of the thread, where there is one.
+    Current,
+    None,
+    Given(SpanRef<'a>),
+}
+
 /// A span before its start.
 #[derive(Debug)]
 #[must_use = "a span starts by `start` or `try_start`"]
@@ -88,7 +99,7 @@ pub struct SpanBuilder<'a> {
     tracer: &'a Tracer,
     name: Cow<'a, str>,
     kind: Kind,
-    parent: Option<SpanRef<'a>>,
+    parent: Parent<'a>,
     attributes: Vec<Attribute<'a>>,
     start_time: Option<SystemTime>,
 }
@@ -102,7 +113,13 @@ impl<'a> SpanBuilder<'a> {
     /// The parent: a [`Span`] of this pipeline, or [`Extracted`] headers of another process. Below headers without a
     /// valid `traceparent`, and below a span that did not start, the span is a root.
     pub fn parent(mut self, parent: impl Into<SpanRef<'a>>) -> Self {
-        self.parent = Some(parent.into());
+        self.parent = Parent::Given(parent.into());
+        self
+    }
+
+    /// No parent, also where there is a current span.
+    pub fn root(mut self) -> Self {
+        self.parent = Parent::None;
         self
     }
 
@@ -135,11 +152,22 @@ impl<'a> SpanBuilder<'a> {
     pub fn try_start(self) -> Result<Span, Error> {
         let moment = self.start_time.map_or_else(|| Ok(Moment::now()), Moment::of)?;
         let shared = &self.tracer.shared;
+        let is_implied = matches!(self.parent, Parent::Current);
         let parent = match self.parent {
-            None => ParentOf::Root,
-            Some(SpanRef::Remote(headers)) => ParentOf::Remote(headers),
-            Some(SpanRef::Span(span)) => span.key_within(shared)?.map_or(ParentOf::Root, ParentOf::Span),
+            Parent::None => None,
+            Parent::Current => current::key_within(shared),
+            Parent::Given(SpanRef::Span(span)) => span.key_within(shared)?,
+            Parent::Given(SpanRef::Remote(headers)) => return self.start_below(ParentOf::Remote(headers), moment),
         };
+        match self.start_below(parent.map_or(ParentOf::Root, ParentOf::Span), moment) {
+            // It has ended, and who made it the current one never left it.
+            Err(Error::NoSuchSpan) if is_implied => self.start_below(ParentOf::Root, moment),
+            started => started,
+        }
+    }
+
+    fn start_below(&self, parent: ParentOf<'_>, moment: Moment) -> Result<Span, Error> {
+        let shared = &self.tracer.shared;
         let name = &*self.name;
         let start = SpanStart { tracer: self.tracer.key, parent, kind: self.kind.number(), name, moment };
         let key = shared.call(|handle| {
