@@ -34,6 +34,8 @@ pub enum Error {
     BadMoment,
     /// A parent or a linked span belongs to another pipeline.
     OtherPipeline,
+    /// The pipeline is that of the parent process: this one was made by a fork, and opens its own.
+    OtherProcess,
     /// The text of an error could not be made: its `Display` panicked, or answered an error.
     NoText,
 }
@@ -54,6 +56,7 @@ impl fmt::Display for Error {
             Self::BadSetting(name) => return write!(out, "the setting {name:?} cannot be handed on"),
             Self::BadMoment => "a moment before 1970 or after 2554",
             Self::OtherPipeline => "a span of another pipeline",
+            Self::OtherProcess => "the pipeline of another process",
             Self::NoText => "the text of an error could not be made",
         })
     }

@@ -28,7 +28,7 @@ pub(crate) enum About {
     EndOfSender,
 }
 
-type Callback = Arc<dyn Fn(&str) + Send + Sync>;
+pub(crate) type Callback = Arc<dyn Fn(&str) + Send + Sync>;
 
 /// Says what matters, about each thing at most once a minute: to a callback, or else on standard error.
 #[derive(Default)]

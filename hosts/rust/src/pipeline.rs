@@ -2,7 +2,7 @@
 //! A pipeline: spans go in, lines come out.
 
 use crate::error::CloseError;
-use crate::ffi::{Counts, Handle, TracerKey};
+use crate::ffi::{Counts, Handle, Process, TracerKey};
 use crate::lines::spans_in;
 use crate::notices::About;
 use crate::settings::Builder;
@@ -18,6 +18,9 @@ use std::time::Instant;
 ///
 /// When the last clone is dropped the pipeline is closed, and lines that nobody drained are lost: [`Pipeline::close`]
 /// hands out the last lines. Spans that are open then record nothing more.
+///
+/// A process made by a fork has to open a pipeline of its own: in that of its parent calls answer
+/// [`Error::OtherProcess`], or count it, spans record nothing, and nothing is exported twice.
 ///
 /// Spans that are lost have a notice, a line of text: the first that were dropped, the first batch that was not
 /// exported, and what was lost at the end; of each there is at most one a minute. See [`Pipeline::on_notice`].
@@ -56,7 +59,7 @@ impl Drop for Owner {
         let lost = spans_in(&lines) + open_spans;
         if lost > 0 {
             let what = "spans that were open or not drained at the end, and are lost";
-            self.shared.notices.say(About::End, format_args!("{what}: {lost}"));
+            self.shared.tell(About::End, format_args!("{what}: {lost}"));
         }
     }
 }
@@ -67,8 +70,8 @@ impl Pipeline {
         Builder::default()
     }
 
-    pub(crate) fn new(handle: Handle, ignored_settings: Vec<String>) -> Self {
-        let shared = Arc::new(Shared::new(handle));
+    pub(crate) fn new(handle: Handle, process: Process, ignored_settings: Vec<String>) -> Self {
+        let shared = Arc::new(Shared::new(handle, process));
         Self { owner: Arc::new(Owner { shared, ignored_settings }) }
     }
 
@@ -143,11 +146,16 @@ impl Pipeline {
     /// # }
     /// ```
     pub fn on_notice(&self, callback: impl Fn(&str) + Send + Sync + 'static) {
-        self.shared().notices.set(Arc::new(callback));
+        self.shared().set_notice(Arc::new(callback));
+    }
+
+    /// Whose the pipeline is.
+    pub(crate) fn process(&self) -> Process {
+        self.shared().process()
     }
 
     pub(crate) fn say(&self, about: About, what: fmt::Arguments<'_>) {
-        self.shared().notices.say(about, what);
+        self.shared().tell(about, what);
     }
 
     pub(crate) fn follow(&self, follower: Weak<dyn Follower>) {

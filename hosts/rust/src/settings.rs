@@ -1,7 +1,7 @@
 // SPDX-License-Identifier: Apache-2.0
 //! How a pipeline is opened.
 
-use crate::ffi::Handle;
+use crate::ffi::{Handle, Process};
 use crate::{Error, Pipeline};
 use std::collections::hash_map::RandomState;
 use std::env;
@@ -63,7 +63,8 @@ impl Builder {
     }
 
     /// Every variable `OTEL_*` of the environment is a setting, but for those of exporters, `OTEL_EXPORTER_*`, and of
-    /// builds, `OTEL_C_DIR` and `OTEL_C_LIBRARY`. A variable that is not UTF-8 or no single line counts as a setting that was ignored.
+    /// builds, `OTEL_C_DIR` and `OTEL_C_LIBRARY`. A variable that is not UTF-8 or no single line counts as a setting
+    /// that was ignored.
     pub fn from_env(self) -> Self {
         self.variables(env::vars_os())
     }
@@ -107,10 +108,11 @@ impl Builder {
             self.set(Setting { name: RESOURCE.to_owned(), value: String::new() });
         }
         let lines: String = self.settings.iter().map(Setting::line).collect();
+        let process = Process::watched()?;
         let mut handle = Handle::open(&lines, self.seed.unwrap_or_else(random_seed))?;
         let names = String::from_utf8(handle.ignored_settings()?).map_err(|_| Error::NotUtf8)?;
         let ignored = names.lines().map(str::to_owned).chain(self.left_out).collect();
-        Ok(Pipeline::new(handle, ignored))
+        Ok(Pipeline::new(handle, process, ignored))
     }
 }
 

@@ -2,10 +2,11 @@
 //! What pipelines, tracers and spans of one pipeline share: its handle after a lock, a count of calls that failed, and
 //! who is told of what.
 
-use crate::ffi::{Counts, Handle};
+use crate::ffi::{Counts, Handle, Process};
 use crate::moment::Moment;
-use crate::notices::{About, Notices};
+use crate::notices::{About, Callback, Notices};
 use crate::Error;
+use std::fmt;
 use std::sync::atomic::{AtomicU64, Ordering};
 use std::sync::{Mutex, MutexGuard, PoisonError, Weak};
 use std::time::Instant;
@@ -21,12 +22,16 @@ pub(crate) trait Follower: Send + Sync {
 
 pub(crate) struct Shared {
     inner: Mutex<Inner>,
+    /// Whose it is. Where this is another process all else stays as it is: locks may have been held at the fork.
+    process: Process,
+    /// How many calls failed since it is that of another process.
+    foreign_calls: AtomicU64,
     followers: Mutex<Vec<Weak<dyn Follower>>>,
     ends: AtomicU64,
     returned_spans: AtomicU64,
     /// From which moment on time is counted that becomes due.
     opened: Instant,
-    pub notices: Notices,
+    notices: Notices,
 }
 
 struct Inner {
@@ -51,9 +56,11 @@ struct Lost {
 }
 
 impl Shared {
-    pub fn new(handle: Handle) -> Self {
+    pub fn new(handle: Handle, process: Process) -> Self {
         Self {
             inner: Mutex::new(Inner { handle, failures: Failures::default(), seen: Lost::default() }),
+            process,
+            foreign_calls: AtomicU64::new(0),
             followers: Mutex::default(),
             ends: AtomicU64::new(0),
             returned_spans: AtomicU64::new(0),
@@ -67,23 +74,42 @@ impl Shared {
         self.inner.lock().unwrap_or_else(PoisonError::into_inner)
     }
 
+    fn is_foreign(&self) -> bool {
+        self.process.is_another()
+    }
+
     /// Carries out calls that no other thread comes between.
-    pub fn call<T>(&self, calls: impl FnOnce(&mut Handle) -> T) -> T {
+    pub fn call<T>(&self, calls: impl FnOnce(&mut Handle) -> Result<T, Error>) -> Result<T, Error> {
+        if self.is_foreign() {
+            return Err(Error::OtherProcess);
+        }
         calls(&mut self.lock().handle)
     }
 
     /// Carries out calls whose error is counted, and not answered.
     pub fn attempt<T>(&self, calls: impl FnOnce(&mut Handle) -> Result<T, Error>) -> Option<T> {
+        if self.is_foreign() {
+            self.note(Error::OtherProcess);
+            return None;
+        }
         let mut inner = self.lock();
         let answer = calls(&mut inner.handle);
         answer.map_err(|error| inner.failures.note(error)).ok()
     }
 
     pub fn note(&self, error: Error) {
-        self.lock().failures.note(error);
+        if self.is_foreign() {
+            self.foreign_calls.fetch_add(1, Ordering::Relaxed);
+        } else {
+            self.lock().failures.note(error);
+        }
     }
 
     pub fn failures(&self) -> Failures {
+        if self.is_foreign() {
+            let count = self.foreign_calls.load(Ordering::Relaxed);
+            return Failures { count, last: (count > 0).then_some(Error::OtherProcess) };
+        }
         self.lock().failures.clone()
     }
 
@@ -96,30 +122,34 @@ impl Shared {
 
     /// Carries out calls that export, and says so where spans were lost since it looked last.
     pub fn look_after(&self, calls: impl FnOnce(&mut Handle) -> Result<(), Error>) -> Result<(), Error> {
-        let answer = self.call(calls);
-        self.look();
-        answer
-    }
-
-    fn look(&self) {
-        let lost = self.lock().newly_lost();
+        if self.is_foreign() {
+            return Err(Error::OtherProcess);
+        }
+        let mut inner = self.lock();
+        let answer = calls(&mut inner.handle);
+        let lost = inner.newly_lost();
+        drop(inner);
         self.say(lost);
+        answer
     }
 
     fn say(&self, lost: Lost) {
         let Lost { spans, batches } = lost;
         if spans > 0 {
             let why = "the queue was full or memory ran out";
-            self.notices.say(About::Drops, format_args!("spans that are lost, since {why}: {spans}"));
+            self.tell(About::Drops, format_args!("spans that are lost, since {why}: {spans}"));
         }
         if batches > 0 {
             let what = "batches of spans that were not exported, and are lost";
-            self.notices.say(About::Batches, format_args!("{what}: {batches}"));
+            self.tell(About::Batches, format_args!("{what}: {batches}"));
         }
     }
 
     /// Closes the pipeline, and answers its last lines, and how many spans were open and are lost.
     pub fn close(&self) -> (Vec<u8>, u64, Result<(), Error>) {
+        if self.is_foreign() {
+            return (Vec::new(), 0, Err(Error::OtherProcess));
+        }
         let mut inner = self.lock();
         let handle = &mut inner.handle;
         let exported = if handle.is_shut_down() { Ok(()) } else { handle.shutdown() };
@@ -135,7 +165,26 @@ impl Shared {
         (lines, open_spans, exported.and(drained).and(closed))
     }
 
+    pub fn process(&self) -> Process {
+        self.process
+    }
+
+    pub fn set_notice(&self, callback: Callback) {
+        if !self.is_foreign() {
+            self.notices.set(callback);
+        }
+    }
+
+    pub fn tell(&self, about: About, what: fmt::Arguments<'_>) {
+        if !self.is_foreign() {
+            self.notices.say(about, what);
+        }
+    }
+
     pub fn follow(&self, follower: Weak<dyn Follower>) {
+        if self.is_foreign() {
+            return;
+        }
         let mut followers = self.followers.lock().unwrap_or_else(PoisonError::into_inner);
         followers.retain(|it| it.strong_count() > 0);
         followers.push(follower);
@@ -143,7 +192,7 @@ impl Shared {
 
     /// A span has ended.
     pub fn ended(&self) {
-        if (self.ends.fetch_add(1, Ordering::Relaxed) + 1) % ENDS_TO_WAKE == 0 {
+        if (self.ends.fetch_add(1, Ordering::Relaxed) + 1) % ENDS_TO_WAKE == 0 && !self.is_foreign() {
             let followers = self.followers.lock().unwrap_or_else(PoisonError::into_inner);
             followers.iter().filter_map(Weak::upgrade).for_each(|it| it.wake());
         }
@@ -156,6 +205,14 @@ impl Shared {
 
     pub fn returned_spans(&self) -> u64 {
         self.returned_spans.load(Ordering::Relaxed)
+    }
+}
+
+impl Drop for Shared {
+    fn drop(&mut self) {
+        if self.is_foreign() {
+            self.inner.get_mut().unwrap_or_else(PoisonError::into_inner).handle.disown();
+        }
     }
 }
 

@@ -139,6 +139,11 @@ impl Handle {
         answer
     }
 
+    /// Lets all be that the handle owns: it is the parent's, where this process was made by a fork.
+    pub fn disown(&mut self) {
+        self.raw = RawHandle { is_open: false, held: Held { at: null_mut() } };
+    }
+
     pub fn is_shut_down(&self) -> bool {
         self.is_shut_down
     }

@@ -3,11 +3,13 @@
 //! module; `Handle` is its safe face.
 
 mod declarations;
+mod forks;
 mod handle;
 mod span_calls;
 #[cfg(test)]
 mod tests;
 
+pub use forks::Process;
 pub use handle::Handle;
 pub use span_calls::{ParentOf, SpanStart};
 

@@ -7,12 +7,14 @@ use super::header_list;
 use super::moment_after;
 use super::posting::Posting;
 use super::taking::Taking;
+use crate::ffi::Process;
 use crate::shared::Follower;
 use crate::Pipeline;
 use std::env;
 use std::error;
 use std::fmt;
 use std::io;
+use std::mem;
 use std::sync::{Arc, Weak};
 use std::thread::{self, JoinHandle};
 use std::time::Duration;
@@ -60,6 +62,8 @@ impl Default for Limits {
 /// decides, also where its body is cut. A line whose answer was lost may have been taken, and then comes twice. What is
 /// given up is counted, and has a [notice](Pipeline::on_notice).
 ///
+/// A process made by a fork has no such threads: there flushes answer false, counts are 0, and nothing is sent.
+///
 /// It keeps its pipeline open. When it is dropped it sends what waits, as long as its limits allow; spans that end
 /// afterwards it does not send.
 ///
@@ -80,6 +84,8 @@ pub struct HttpSender {
     desk: Arc<Desk>,
     /// That which takes lines and that which posts them, until they have ended.
     threads: Vec<JoinHandle<()>>,
+    /// Whose threads they are.
+    process: Process,
     closing_limit: Duration,
     ignored_settings: Vec<String>,
 }
@@ -103,6 +109,7 @@ impl HttpSender {
         let mut sender = Self {
             desk: Arc::clone(&desk),
             threads: Vec::new(),
+            process: pipeline.process(),
             closing_limit: limits.closing_limit,
             ignored_settings: Vec::new(),
         };
@@ -136,11 +143,16 @@ impl HttpSender {
     /// Exports what waits in the pipeline, drains it, and waits until all lines are sent or given up. False where the
     /// time ran out before.
     pub fn flush(&self, limit: Duration) -> bool {
-        self.desk.flush(limit)
+        !self.process.is_another() && self.desk.flush(limit)
     }
 
     pub fn counts(&self) -> SenderCounts {
-        self.desk.counts()
+        // In another process the desk may be locked by a thread that is not there.
+        if self.process.is_another() {
+            SenderCounts::default()
+        } else {
+            self.desk.counts()
+        }
     }
 
     /// How many lines were given up.
@@ -150,7 +162,11 @@ impl HttpSender {
 
     /// What went wrong last.
     pub fn last_fault(&self) -> Option<String> {
-        self.desk.last_fault()
+        if self.process.is_another() {
+            None
+        } else {
+            self.desk.last_fault()
+        }
     }
 
     /// Does what a drop does, and answers what became of all.
@@ -160,6 +176,10 @@ impl HttpSender {
     }
 
     fn finish(&mut self) {
+        if self.process.is_another() {
+            // The threads are not there, and what they had is the parent's.
+            return self.threads.drain(..).for_each(mem::forget);
+        }
         self.desk.close_by(moment_after(self.closing_limit));
         for thread in self.threads.drain(..) {
             if thread.join().is_err() {
