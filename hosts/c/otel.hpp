@@ -7,7 +7,8 @@
    caller's, and may throw for want of memory.
 
    Threads may share a pipeline and its spans: each call takes the pipeline's lock. To move a span or a pipeline, or to
-   destroy it, is for one thread alone. */
+   destroy it, is for one thread alone. No handler of a signal may call them. After a fork all pipelines are the
+   parent's: calls on them in the child are refused and counted, and the child opens one of its own. */
 #ifndef OTEL_HPP
 #define OTEL_HPP
 
@@ -94,7 +95,7 @@ public:
   std::optional<Error> last_failure() const { return shared_ == nullptr ? std::nullopt : shared_->last_failure(); }
 
   /* Has notices go there, from any thread that is in a call of the pipeline; without a function to standard error. */
-  void on_notice(Notice notice) { shared().notices.set(std::move(notice)); }
+  void on_notice(Notice notice) { shared().on_notice(std::move(notice)); }
 
   void flush() { look_after("otel_flush", otel_flush); }
   /* Exports what is due, by a clock that never goes back: not that of the spans' moments, which is set now and then. */

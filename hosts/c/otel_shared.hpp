@@ -6,12 +6,17 @@
 
 #include "otel_values.hpp"
 
+#include <atomic>
 #include <cstdio>
 #include <functional>
 #include <memory>
 #include <mutex>
 #include <new>
 #include <optional>
+
+#if __has_include(<pthread.h>)
+#include <pthread.h>
+#endif
 
 namespace otel {
 
@@ -94,21 +99,40 @@ private:
   std::optional<Steady::time_point> next_[3];
 };
 
+/* How many forks lie between this process and the one that began the program. */
+inline std::atomic<unsigned> forks{0};
+#if __has_include(<pthread.h>)
+inline const bool hears_of_forks = pthread_atfork(nullptr, nullptr, [] { forks++; }) == 0;
+#endif
+
+/* In a process made by a fork since, all here is the parent's and stays as it is: locks may have been held then. Calls
+   are refused as on a pipeline that is closed. */
 class Shared {
 public:
   Shared() = default;
   Shared(const Shared &) = delete;
   Shared &operator=(const Shared &) = delete;
-  ~Shared() { otel_close(&handle_); }
+  ~Shared() {
+    if (!is_foreign()) {
+      otel_close(&handle_);
+    }
+  }
 
   /* Makes calls that no other thread comes between. They answer a status, which is thrown where it is an error. */
   template <typename Calls> void must(const char *name, Calls calls) {
+    if (is_foreign()) {
+      throw Error(FOREIGN, OTEL_CLOSED);
+    }
     std::lock_guard<std::mutex> lock(mutex_);
     detail::must(name, calls(&handle_));
   }
 
   /* The same, but an error is counted. */
   template <typename Calls> void attempt(const char *name, Calls calls) noexcept {
+    if (is_foreign()) {
+      foreign_calls_++;
+      return;
+    }
     try {
       std::lock_guard<std::mutex> lock(mutex_);
       note(name, status_of(calls));
@@ -127,17 +151,26 @@ public:
   }
 
   std::uint64_t failed_calls() noexcept {
+    if (is_foreign()) {
+      return foreign_calls_;
+    }
     std::lock_guard<std::mutex> lock(mutex_);
     return failed_calls_;
   }
 
   std::optional<Error> last_failure() {
+    if (is_foreign()) {
+      return foreign_calls_ == 0 ? std::nullopt : std::optional<Error>(Error(FOREIGN, OTEL_CLOSED));
+    }
     std::lock_guard<std::mutex> lock(mutex_);
     return failed_calls_ == 0 ? std::nullopt : std::optional<Error>(Error(last_name_, last_status_));
   }
 
   /* Says so where spans were dropped, refused or not exported since it looked last. */
   void look() noexcept {
+    if (is_foreign()) {
+      return;
+    }
     otel_numbers numbers{};
     std::uint64_t dropped = 0, batches = 0;
     attempt("otel_count", [&](otel_handle *handle) -> std::uint32_t {
@@ -151,10 +184,10 @@ public:
       return OTEL_OK;
     });
     if (dropped > 0) {
-      notices.say(About::drops, "spans that are lost, since the queue was full or memory ran out", dropped);
+      notices_.say(About::drops, "spans that are lost, since the queue was full or memory ran out", dropped);
     }
     if (batches > 0) {
-      notices.say(About::batches, "batches of spans that were not exported, and are lost", batches);
+      notices_.say(About::batches, "batches of spans that were not exported, and are lost", batches);
     }
   }
 
@@ -162,6 +195,9 @@ public:
   std::uint32_t close() noexcept {
     std::uint32_t status = OTEL_CLOSED;
     std::uint64_t lost = 0;
+    if (is_foreign()) {
+      return status;
+    }
     attempt("otel_shutdown", [](otel_handle *handle) -> std::uint32_t {
       otel_shutdown(handle); /* an error says that it was shut down or closed before, or what look() finds */
       return OTEL_OK;
@@ -175,14 +211,22 @@ public:
       return OTEL_OK;
     });
     if (lost > 0) {
-      notices.say(About::end, "spans that were open or not drained at the end, and are lost", lost);
+      notices_.say(About::end, "spans that were open or not drained at the end, and are lost", lost);
     }
     return status;
   }
 
-  Notices notices;
+  void on_notice(Notice notice) {
+    if (!is_foreign()) {
+      notices_.set(std::move(notice));
+    }
+  }
 
 private:
+  static constexpr const char *FOREIGN = "a call on the pipeline of another process";
+
+  bool is_foreign() const noexcept { return forks_ != forks; }
+
   /* How many spans are in the lines that nobody drained; where there is no memory to look, as many as are sure. */
   static std::uint64_t undrained_spans(otel_handle *handle) noexcept {
     std::uint64_t count = 0;
@@ -217,6 +261,9 @@ private:
     }
   }
 
+  const unsigned forks_ = forks;
+  std::atomic<std::uint64_t> foreign_calls_{0};
+  Notices notices_;
   std::mutex mutex_;
   otel_handle handle_{};
   std::uint64_t failed_calls_ = 0;

@@ -1,10 +1,12 @@
 // SPDX-License-Identifier: Apache-2.0
 /* Looks whether tracing stays out of the way of a service: calls of a span throw nothing and are counted where they
-   fail, an ended span has children still, a span that an exception leaves says so, and threads may share a pipeline.
-   It ends with 1 where something is not so, and names it. */
+   fail, an ended span has children still, a span that an exception leaves says so, threads may share a pipeline, and a
+   fork exports nothing twice. It ends with 1 where something is not so, and names it. */
 #include "hold.hpp"
 
+#include <sys/wait.h>
 #include <thread>
+#include <unistd.h>
 
 namespace {
 
@@ -162,6 +164,46 @@ void threads_share_a_pipeline() {
   }
 }
 
+/* Whether work holds in a child process, which ends with it, or where it hangs. */
+template <typename Work> bool holds_in_child(Work work) {
+  pid_t child = fork();
+  if (child == 0) {
+    alarm(20);
+    _exit(work() ? 0 : 1);
+  }
+  int status = -1;
+  return waitpid(child, &status, 0) == child && status == 0;
+}
+
+void children_leave_what_is_their_parents() {
+  otel::Pipeline pipeline("OTEL_SPAN_PROCESSOR=batch\nOTEL_BSP_MAX_QUEUE_SIZE=1000000", 1);
+  otel::Span span = pipeline.start("open");
+  std::atomic<bool> is_over{false};
+  std::thread busy([&] {
+    while (!is_over) {
+      span.set("busy", 1);
+    }
+  });
+  for (int round = 0; round < 20; round++) {
+    bool holds = holds_in_child([&] {
+      otel::Span child = span.child("twice");
+      bool is_refused = child.key() == 0 && pipeline.failed_calls() == 1 &&
+                        throws(OTEL_CLOSED, [&] { pipeline.flush(); }) &&
+                        throws(OTEL_CLOSED, [&] { pipeline.drain(); });
+      otel::Span ends = std::move(span);
+      otel::Pipeline closes = std::move(pipeline), own("OTEL_SPAN_PROCESSOR=batch", 2);
+      own.start("own");
+      std::string lines = lines_of(own);
+      return is_refused && has(lines, R"("name":"own")") && !has(lines, "twice");
+    });
+    hold(holds, "a child process leaves the pipeline of its parent");
+  }
+  is_over = true;
+  busy.join();
+  span.end();
+  hold(pipeline.failed_calls() == 0 && times(lines_of(pipeline), R"("name":"open")") == 1, "the parent goes on");
+}
+
 void notices_say_what_is_lost() {
   std::vector<std::string> notices;
   {
@@ -212,6 +254,7 @@ int main() {
   exceptions_that_leave_are_errors();
   spans_within_an_unwinding_are_no_errors();
   threads_share_a_pipeline();
+  children_leave_what_is_their_parents();
   notices_say_what_is_lost();
   time_that_is_due_goes_by_the_steady_clock();
   std::cout << "failures: all is so\n";
