@@ -85,7 +85,12 @@ public:
   using Integers = std::vector<std::int64_t>;
   using Floats = std::vector<double>;
   using Bools = std::vector<bool>;
-  using Value = std::variant<std::string_view, std::int64_t, double, bool, Texts, Integers, Floats, Bools, std::string>;
+  /* The digits of an integer that has no place in 64 bits with a sign. It is a type of our own for another reason too:
+     where all types of a variant are known to it, libstdc++ 12 faults when memory runs out while one is copied. */
+  struct Digits {
+    std::string text;
+  };
+  using Value = std::variant<std::string_view, std::int64_t, double, bool, Texts, Integers, Floats, Bools, Digits>;
 
   /* Whether every value of a type of integers has a place in 64 bits with a sign. */
   template <typename Number> static constexpr bool FITS = std::is_signed_v<Number> || sizeof(Number) < 8;
@@ -116,7 +121,7 @@ public:
             std::enable_if_t<std::is_unsigned_v<Number> && sizeof(Number) == sizeof(std::uint64_t), long> = 0>
   Attribute(std::string_view key, Number value) : key_(key), value_(static_cast<std::int64_t>(value)) {
     if (value > static_cast<Number>(INT64_MAX)) {
-      value_ = std::to_string(value);
+      value_ = Digits{std::to_string(value)};
     }
   }
 
@@ -207,6 +212,7 @@ struct Gather {
   std::uint32_t operator()(std::string_view value) const {
     return otel_with_text(handle, bytes(key), key.size(), bytes(value), value.size());
   }
+  std::uint32_t operator()(const Attribute::Digits &value) const { return (*this)(std::string_view(value.text)); }
   std::uint32_t operator()(std::int64_t value) const {
     return otel_with_integer(handle, bytes(key), key.size(), value);
   }
