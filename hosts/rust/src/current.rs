@@ -1,9 +1,8 @@
 // SPDX-License-Identifier: Apache-2.0
 //! The current span of a thread.
 
-use crate::ffi::SpanKey;
 use crate::shared::Shared;
-use crate::span::Span;
+use crate::span::{Span, Standing};
 use std::cell::RefCell;
 use std::fmt;
 use std::marker::PhantomData;
@@ -23,7 +22,7 @@ struct Stack {
 struct Entered {
     number: u64,
     shared: Arc<Shared>,
-    key: SpanKey,
+    standing: Standing,
 }
 
 /// While it is there its span is the current one of the thread: the parent of spans of the same pipeline that start
@@ -38,13 +37,13 @@ pub struct Current<'s> {
 }
 
 impl Current<'_> {
-    pub(crate) fn enter(started: Option<(&Arc<Shared>, SpanKey)>) -> Self {
-        let number = started.and_then(|(shared, key)| {
+    pub(crate) fn enter(started: Option<(&Arc<Shared>, Standing)>) -> Self {
+        let number = started.and_then(|(shared, standing)| {
             let shared = Arc::clone(shared);
             let entered = |stack: &RefCell<Stack>| {
                 let stack = &mut *stack.borrow_mut();
                 stack.next += 1;
-                stack.spans.push(Entered { number: stack.next, shared, key });
+                stack.spans.push(Entered { number: stack.next, shared, standing });
                 stack.next
             };
             // A thread that ends has no current span.
@@ -97,17 +96,20 @@ pub struct CurrentSpan(Span);
 pub fn current_span() -> Option<CurrentSpan> {
     let last = |stack: &RefCell<Stack>| {
         let stack = stack.borrow();
-        stack.spans.last().map(|it| (Arc::clone(&it.shared), it.key))
+        stack.spans.last().map(|it| (Arc::clone(&it.shared), it.standing.clone()))
     };
-    let (shared, key) = ENTERED.try_with(last).ok()??;
-    Some(CurrentSpan(Span::new(shared, key)))
+    let (shared, standing) = ENTERED.try_with(last).ok()??;
+    Some(CurrentSpan(match standing {
+        Standing::Open(key) => Span::new(shared, key),
+        Standing::Passing(parent) => Span::passing(shared, parent),
+    }))
 }
 
-/// The key of the current span, where it is one of a pipeline.
-pub(crate) fn key_within(shared: &Arc<Shared>) -> Option<SpanKey> {
+/// What children of the current span are below, where it is one of a pipeline.
+pub(crate) fn standing_within(shared: &Arc<Shared>) -> Option<Standing> {
     let last = |stack: &RefCell<Stack>| {
         let stack = stack.borrow();
-        stack.spans.last().filter(|it| Arc::ptr_eq(&it.shared, shared)).map(|it| it.key)
+        stack.spans.last().filter(|it| Arc::ptr_eq(&it.shared, shared)).map(|it| it.standing.clone())
     };
     ENTERED.try_with(last).ok()?
 }

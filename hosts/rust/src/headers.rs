@@ -41,6 +41,13 @@ impl Extracted {
         extracted
     }
 
+    /// The headers that have these fields.
+    pub(crate) fn fields(&self) -> impl Iterator<Item = (String, String)> + '_ {
+        let all = [("traceparent", &self.traceparent), ("tracestate", &self.tracestate), ("baggage", &self.baggage)];
+        let said = all.into_iter().filter(|(_, value)| !value.is_empty());
+        said.map(|(name, value)| (name.to_owned(), value.clone()))
+    }
+
     /// The field `traceparent`, or an empty text.
     pub fn traceparent(&self) -> &str {
         &self.traceparent

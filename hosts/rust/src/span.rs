@@ -18,7 +18,8 @@ use std::thread;
 use std::time::SystemTime;
 
 /// Work that is traced. It ends when it is dropped, at that moment, and is handed on for export where it is sampled.
-/// Where it is dropped by a panic it is an error, with an event `exception`.
+/// Where it is dropped by a panic it is an error, with an event `exception`. One that starts after the pipeline was shut
+/// down records nothing, and passes its parent on.
 ///
 /// No call of a span panics or answers an error: what fails is counted by
 /// [`Pipeline::failed_calls`](crate::Pipeline::failed_calls). A span does not keep its pipeline open.
@@ -27,8 +28,18 @@ pub struct Span {
     shared: Arc<Shared>,
     /// None where the span did not start, or has ended.
     key: Option<SpanKey>,
+    /// The parent in another process, where the pipeline was shut down before the start: it is passed on.
+    passed_on: Option<Arc<Extracted>>,
     /// Whether it started in a panic, as what cleans up does.
     began_in_panic: bool,
+}
+
+/// What a child is below.
+#[derive(Clone)]
+pub(crate) enum Standing {
+    Open(SpanKey),
+    /// The parent in another process of a span that started after a shutdown.
+    Passing(Arc<Extracted>),
 }
 
 /// A span to be a parent or to be linked.
@@ -66,12 +77,26 @@ impl<'a> Status<'a> {
 
 impl Span {
     pub(crate) fn new(shared: Arc<Shared>, key: SpanKey) -> Self {
-        Self { shared, key: Some(key), began_in_panic: thread::panicking() }
+        Self { shared, key: Some(key), passed_on: None, began_in_panic: thread::panicking() }
     }
 
     /// A span that did not start.
     pub(crate) fn none(shared: Arc<Shared>) -> Self {
-        Self { shared, key: None, began_in_panic: false }
+        Self { shared, key: None, passed_on: None, began_in_panic: false }
+    }
+
+    /// A span that records nothing, and stands for its parent in another process.
+    pub(crate) fn passing(shared: Arc<Shared>, parent: Arc<Extracted>) -> Self {
+        Self { shared, key: None, passed_on: Some(parent), began_in_panic: false }
+    }
+
+    /// What its children are below.
+    pub(crate) fn standing(&self) -> Option<Standing> {
+        match (&self.key, &self.passed_on) {
+            (Some(key), _) => Some(Standing::Open(*key)),
+            (None, Some(parent)) => Some(Standing::Passing(Arc::clone(parent))),
+            (None, None) => None,
+        }
     }
 
     /// Lets the span be, which somebody else has.
@@ -96,11 +121,16 @@ impl Span {
     /// # }
     /// ```
     pub fn enter(&self) -> Current<'_> {
-        Current::enter(self.key.map(|key| (&self.shared, key)))
+        Current::enter(self.standing().map(|standing| (&self.shared, standing)))
+    }
+
+    /// What its children are below in a pipeline, where the span is of that one.
+    pub(crate) fn standing_within(&self, shared: &Arc<Shared>) -> Result<Option<Standing>, Error> {
+        self.key_within(shared).map(|_| self.standing())
     }
 
     /// The key in a pipeline, where the span is of that one.
-    pub(crate) fn key_within(&self, shared: &Arc<Shared>) -> Result<Option<SpanKey>, Error> {
+    fn key_within(&self, shared: &Arc<Shared>) -> Result<Option<SpanKey>, Error> {
         match self.key {
             Some(_) if !Arc::ptr_eq(&self.shared, shared) => Err(Error::OtherPipeline),
             key => Ok(key),
@@ -141,6 +171,9 @@ impl Span {
     /// # }
     /// ```
     pub fn inject(&self, into: &mut impl Extend<(String, String)>) {
+        if let Some(parent) = &self.passed_on {
+            return into.extend(parent.fields());
+        }
         let text = self.attempt(|handle, key| {
             let bytes = handle.inject(key)?;
             String::from_utf8(bytes).map_err(|_| Error::NotUtf8)

@@ -2,12 +2,13 @@
 //! Tracers, and how a span starts.
 
 use crate::attributes::{Attribute, Value};
+use crate::context::SpanContext;
 use crate::current;
-use crate::ffi::{ParentOf, SpanStart, TracerKey};
+use crate::ffi::{Handle, ParentOf, SpanKey, SpanStart, TracerKey};
 use crate::headers::Extracted;
 use crate::moment::Moment;
 use crate::shared::Shared;
-use crate::span::{Span, SpanRef};
+use crate::span::{Span, SpanRef, Standing};
 use crate::Error;
 use std::borrow::Cow;
 use std::fmt;
@@ -155,11 +156,16 @@ impl<'a> SpanBuilder<'a> {
         let is_implied = matches!(self.parent, Parent::Current);
         let parent = match self.parent {
             Parent::None => None,
-            Parent::Current => current::key_within(shared),
-            Parent::Given(SpanRef::Span(span)) => span.key_within(shared)?,
+            Parent::Current => current::standing_within(shared),
+            Parent::Given(SpanRef::Span(span)) => span.standing_within(shared)?,
             Parent::Given(SpanRef::Remote(headers)) => return self.start_below(ParentOf::Remote(headers), moment),
         };
-        match self.start_below(parent.map_or(ParentOf::Root, ParentOf::Span), moment) {
+        let started = match &parent {
+            None => self.start_below(ParentOf::Root, moment),
+            Some(Standing::Open(key)) => self.start_below(ParentOf::Span(*key), moment),
+            Some(Standing::Passing(headers)) => self.start_below(ParentOf::Remote(headers), moment),
+        };
+        match started {
             // It has ended, and who made it the current one never left it.
             Err(Error::NoSuchSpan) if is_implied => self.start_below(ParentOf::Root, moment),
             started => started,
@@ -170,12 +176,30 @@ impl<'a> SpanBuilder<'a> {
         let shared = &self.tracer.shared;
         let name = &*self.name;
         let start = SpanStart { tracer: self.tracer.key, parent, kind: self.kind.number(), name, moment };
-        let key = shared.call(|handle| {
+        let started = shared.call(|handle| {
             handle.gather(&self.attributes)?;
-            handle.start(&start)
+            let key = handle.start(&start)?;
+            Ok(passed_on(handle, key, &start.parent)?.map_or(Standing::Open(key), Standing::Passing))
         })?;
-        Ok(Span::new(Arc::clone(shared), key))
+        Ok(match started {
+            Standing::Open(key) => Span::new(Arc::clone(shared), key),
+            Standing::Passing(parent) => Span::passing(Arc::clone(shared), parent),
+        })
     }
+}
+
+/// The parent of a span that started after a shutdown, and is nobody then: it is let go of.
+fn passed_on(handle: &mut Handle, key: SpanKey, parent: &ParentOf<'_>) -> Result<Option<Arc<Extracted>>, Error> {
+    if !handle.is_shut_down() || SpanContext::of(&handle.identity(key)?).is_valid() {
+        return Ok(None);
+    }
+    let headers = match parent {
+        ParentOf::Root => return Ok(None),
+        ParentOf::Remote(headers) => (*headers).clone(),
+        ParentOf::Span(parent) => handle.headers_of(*parent)?,
+    };
+    handle.abandon(key)?;
+    Ok(Some(Arc::new(headers)))
 }
 
 impl<'a> From<&'a Span> for SpanRef<'a> {

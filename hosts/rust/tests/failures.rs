@@ -1,7 +1,7 @@
 // SPDX-License-Identifier: Apache-2.0
 //! What goes wrong is answered or counted, and nothing panics.
 
-use otel_proved::{Error, Extracted, Pipeline, SpanContext};
+use otel_proved::{Error, Extracted, Pipeline, Span, SpanContext};
 use std::error;
 use std::fmt;
 use std::time::{Duration, UNIX_EPOCH};
@@ -70,6 +70,34 @@ fn after_a_shutdown_lines_can_still_be_drained() {
     assert_eq!(pipeline.failed_calls(), 0);
     let lines = String::from_utf8(pipeline.close().unwrap()).unwrap();
     assert!(lines.contains(r#""name":"first""#) && !lines.contains(r#""name":"second""#));
+}
+
+#[test]
+fn after_a_shutdown_a_span_passes_its_parent_on() {
+    let headers = [
+        ("traceparent", "00-0af7651916cd43dd8448eb211c80319c-b7ad6b7169203331-01"),
+        ("tracestate", "a=1"),
+        ("baggage", "user=7"),
+    ];
+    let headers_of = |span: &Span| {
+        let mut onward = Vec::new();
+        span.inject(&mut onward);
+        onward
+    };
+    let pipeline = open();
+    let tracer = pipeline.tracer("shop");
+    let open = tracer.span("open").parent(&Extracted::from_headers(headers)).start();
+    pipeline.shutdown().unwrap();
+    let span = tracer.span("GET").parent(&Extracted::from_headers(headers)).start();
+    assert!(!span.is_recording());
+    let wanted = headers.map(|(name, value)| (name.to_owned(), value.to_owned()));
+    assert_eq!(headers_of(&span), wanted);
+    let _current = span.enter();
+    assert_eq!(headers_of(&tracer.span("child").start()), wanted);
+    assert_eq!(headers_of(&tracer.span("given").parent(&span).start()), wanted);
+    assert_eq!(headers_of(&tracer.span("below").parent(&open).start()), headers_of(&open));
+    assert_eq!(headers_of(&tracer.span("root").root().start()), []);
+    assert_eq!((pipeline.failed_calls(), pipeline.counts().unwrap().open_spans), (0, 1));
 }
 
 #[test]

@@ -9,7 +9,7 @@ use super::declarations::{
 use super::handle::{filled, Handle};
 use super::{check, SpanIdentity, SpanKey, TracerKey};
 use crate::attributes::{Attribute, Value};
-use crate::headers::Extracted;
+use crate::headers::{self, Extracted};
 use crate::moment::Moment;
 use crate::Error;
 use std::slice;
@@ -177,6 +177,13 @@ impl Handle {
         filled(ROOM_OF_HEADERS, |buffer, length| unsafe {
             otel_inject(&mut self.raw, span, buffer.as_mut_ptr(), buffer.len(), length)
         })
+    }
+
+    /// The headers that hand the span on, as a parent has them.
+    pub fn headers_of(&mut self, span: SpanKey) -> Result<Extracted, Error> {
+        let text = String::from_utf8(self.inject(span)?).map_err(|_| Error::NotUtf8)?;
+        let headers: Vec<_> = headers::split(&text).collect();
+        Ok(Extracted::from_headers(headers.iter().map(|(name, value)| (&**name, &**value))))
     }
 
     pub fn end(&mut self, span: SpanKey, moment: Moment) -> Result<(), Error> {
