@@ -80,13 +80,14 @@ public:
   /* A child of the span of another process, which the headers name; without a valid traceparent a root. */
   Span start_remote(const Headers &headers, std::string_view name, const Start &start = {}) {
     detail::Remote remote(headers);
-    return started(
+    Span span = started(
         "otel_start_remote",
         [&](otel_handle *handle, std::uint64_t moment, std::uint64_t *key) {
-          detail::RemoteView view{remote.traceparent, remote.tracestate, remote.baggage};
-          return detail::start_remote(handle, view, {name, start, moment}, key);
+          return detail::start_remote(handle, remote.view(), {name, start, moment}, key);
         },
         start.moment);
+    span.pass_on_if_nobody(std::move(remote));
+    return span;
   }
 
   /* How many calls of spans failed, which throw nothing. */
@@ -110,7 +111,10 @@ public:
     must("otel_count", [&](otel_handle *handle) { return otel_count(handle, &numbers); });
     return numbers;
   }
-  void shutdown() { look_after("otel_shutdown", otel_shutdown); }
+  void shutdown() {
+    shared().is_shut_down = true;
+    look_after("otel_shutdown", otel_shutdown);
+  }
   void close() { detail::must("otel_close", shared().close()); }
 
 private:

@@ -216,6 +216,9 @@ public:
     return status;
   }
 
+  /* Whether nobody is started any more. */
+  std::atomic<bool> is_shut_down{false};
+
   void on_notice(Notice notice) {
     if (!is_foreign()) {
       notices_.set(std::move(notice));

@@ -20,11 +20,6 @@ struct Beginning {
   std::uint64_t moment;
 };
 
-/* The headers that name the span of another process, or one of this that has ended. */
-struct RemoteView {
-  std::string_view traceparent, tracestate, baggage;
-};
-
 inline std::uint32_t start_here(otel_handle *handle, std::uint64_t parent, const Beginning &beginning,
                                 std::uint64_t *key) {
   const auto &[name, start, moment] = beginning;
@@ -76,7 +71,16 @@ public:
     }
   }
 
-  RemoteView view() const noexcept { return {{traceparent_.data(), length_}, headers_.tracestate, headers_.baggage}; }
+  /* Keeps what headers say, as they are. */
+  void pass(Remote headers) noexcept {
+    length_ = 0;
+    headers_ = std::move(headers);
+  }
+
+  RemoteView view() const noexcept {
+    std::string_view own(traceparent_.data(), length_);
+    return {own.empty() ? headers_.traceparent : own, headers_.tracestate, headers_.baggage};
+  }
 
   Headers headers() const {
     Headers headers;
@@ -103,8 +107,8 @@ private:
 /* Work that is traced. Where it goes out of scope it ends, with the moment of the clock; where that is since an
    exception leaves the scope, the span is an error, with an event `exception`.
 
-   One that could not start records nothing, and its children are those of its parent. One that was moved away does
-   nothing. */
+   One that could not start, or starts after a shutdown, records nothing, and its children are those of its parent,
+   which it passes on. One that was moved away does nothing. */
 class Span {
 public:
   Span(Span &&other) noexcept { take(other); }
@@ -142,9 +146,14 @@ public:
       std::uint32_t status = standing_ == Standing::open
                                  ? detail::start_here(handle, key_, beginning, &span.key_)
                                  : detail::start_remote(handle, kept_.view(), beginning, &span.key_);
-      if (status == OTEL_OK) {
+      if (status == OTEL_OK && !is_nobody(handle, span.key_)) {
         span.standing_ = Standing::open;
-      } else if (standing_ == Standing::open) {
+        return status;
+      }
+      if (status == OTEL_OK) {
+        otel_abandon(handle, span.key_);
+      }
+      if (standing_ == Standing::open) {
         span.kept_.keep(handle, key_);
       } else {
         span.kept_ = kept_;
@@ -255,6 +264,28 @@ private:
     if (shared_ != nullptr) {
       shared_->attempt(name, calls);
     }
+  }
+
+  /* Whether a span that was started is nobody, as after a shutdown. */
+  bool is_nobody(otel_handle *handle, std::uint64_t key) const noexcept {
+    Identity identity{};
+    return shared_->is_shut_down && otel_identity(handle, key, &identity) == OTEL_OK && identity.trace_id_high == 0 &&
+           identity.trace_id_low == 0;
+  }
+
+  /* Stands for its parent in another process, where it is nobody. */
+  void pass_on_if_nobody(detail::Remote parent) noexcept {
+    if (!shared_->is_shut_down) {
+      return;
+    }
+    attempt("otel_abandon", [&](otel_handle *handle) -> std::uint32_t {
+      if (!is_nobody(handle, key_)) {
+        return OTEL_OK;
+      }
+      standing_ = Standing::unstarted;
+      kept_.pass(std::move(parent));
+      return otel_abandon(handle, key_);
+    });
   }
 
   /* A change of a span that did start; after its end that is a failure. */

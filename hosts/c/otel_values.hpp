@@ -290,6 +290,11 @@ inline std::string header(const Headers &headers, std::string_view name) {
   return found;
 }
 
+/* The headers that name the span of another process, or one of this that has ended. */
+struct RemoteView {
+  std::string_view traceparent, tracestate, baggage;
+};
+
 /* What headers say about the span of another process. */
 struct Remote {
   std::string traceparent, tracestate, baggage;
@@ -298,6 +303,8 @@ struct Remote {
   explicit Remote(const Headers &headers)
       : traceparent(header(headers, "traceparent")), tracestate(header(headers, "tracestate")),
         baggage(header(headers, "baggage")) {}
+
+  RemoteView view() const noexcept { return {traceparent, tracestate, baggage}; }
 };
 
 /* The headers of lines that end in a carriage return and a line feed. */

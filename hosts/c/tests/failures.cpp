@@ -100,6 +100,19 @@ void ended_spans_have_children() {
   hold(times(lines, R"("spanId":")" + hexadecimal(identity.span_id)) == 2, "the link names the ended span");
 }
 
+void parents_are_passed_on_after_a_shutdown() {
+  otel::Pipeline pipeline = pipeline_of_a_queue();
+  otel::Span open = pipeline.start_remote(CALLER, "open");
+  pipeline.shutdown();
+  otel::Span span = pipeline.start_remote(CALLER, "served");
+  hold(span.key() == 0 && span.inject() == CALLER, "a span after a shutdown passes its parent on");
+  hold(span.child("child").inject() == CALLER, "so does its child");
+  hold(open.child("below").inject() == open.inject(), "so does the child of a span from before");
+  hold(pipeline.start("root").inject().empty(), "a root has nothing to pass on");
+  open.end();
+  hold(pipeline.failed_calls() == 0 && pipeline.count().open_spans == 0, "no call has failed, and no span is left");
+}
+
 void spans_of_other_pipelines_are_linked() {
   otel::Pipeline here = pipeline_of_a_queue(), there("OTEL_SPAN_PROCESSOR=batch", 2);
   otel::Span other = there.start("other"), mine = here.start("mine");
@@ -250,6 +263,7 @@ void time_that_is_due_goes_by_the_steady_clock() {
 int main() {
   what_fails_is_counted();
   ended_spans_have_children();
+  parents_are_passed_on_after_a_shutdown();
   spans_of_other_pipelines_are_linked();
   exceptions_that_leave_are_errors();
   spans_within_an_unwinding_are_no_errors();
