@@ -162,6 +162,10 @@ impl<E: StoresBatches, F: SpanFilter> StoresBatches for FilteringExporter<E, F> 
         self.exporter.lost_batches()
     }
 
+    fn lost_spans(&self) -> u64 {
+        self.exporter.lost_spans()
+    }
+
     fn take_batches(&mut self, alloc: Global) -> Vec<Vec<SpanData>> {
         self.exporter.take_batches(alloc)
     }

@@ -9,16 +9,21 @@ use std::alloc::Global;
 
 /// An exporter that may keep its batches until they are taken. None of its calls takes back a batch.
 pub trait StoresBatches: SpanExporter {
-    /// The batches that are kept, those that were taken, and how many were lost; none of each where it keeps none.
+    /// The batches that are kept, those that were taken, and how many were lost, with how many spans; none of each where
+    /// it keeps none.
     ghost stored: { Self → StoredBatches };
 
     /// The batches that are kept, the oldest first.
     fn batches(&self) -> &[Vec<SpanData>]
         ensures { map (λ batch. batch.items) result.now ≡ (stored self.now).batches };
 
-    /// How many batches were handed to it and found no memory.
+    /// How many batches were handed to it and found no memory or no room.
     fn lost_batches(&self) -> u64
         ensures { result ≡ (stored self.now).lost };
+
+    /// How many spans these had.
+    fn lost_spans(&self) -> u64
+        ensures { result ≡ (stored self.now).lost_spans };
 
     /// What a taking does beside that.
     ghost take_gives: { Self → Self → Type 0 };
@@ -58,6 +63,13 @@ impl<C: SpanExporter> StoresBatches for ExporterOf<InMemorySpanExporter, C> {
     fn lost_batches(&self) -> u64 {
         match self {
             ExporterOf::Memory(memory) => memory.lost_batches(),
+            ExporterOf::Custom(_) => 0,
+        }
+    }
+
+    fn lost_spans(&self) -> u64 {
+        match self {
+            ExporterOf::Memory(memory) => memory.lost_spans(),
             ExporterOf::Custom(_) => 0,
         }
     }

@@ -2,7 +2,7 @@
 //! becomes the lines of a pipeline in memory.
 
 ghost use Rattle.std.specs.Prelude.{◌≡◌, map};
-ghost use Rattle.otel_pipeline.specs.FirstProcessor.{TakesShown, batches_of_first, losses_of_first};
+ghost use Rattle.otel_pipeline.specs.FirstProcessor.{TakesShown, batches_of_first, losses_of_first, stored_of_first};
 
 use crate::trace::{KeepsBatches, ProviderOf};
 use otel_export::trace::SpanData;
@@ -18,12 +18,22 @@ pub fn kept_by_first<P: KeepsBatches>(processors: &[P]) -> &[Vec<SpanData>]
     }
 }
 
-/// How many batches of the first of these processors found no memory.
+/// How many batches of the first of these processors found no memory or no room.
 pub fn lost_by_first<P: KeepsBatches>(processors: &[P]) -> u64
     ensures { result ≡ losses_of_first P.KeepsBatches.own processors.now }
 {
     match processors.first() {
         Some(first) => first.lost_batches(),
+        None => 0,
+    }
+}
+
+/// How many spans these batches had.
+pub fn spans_lost_by_first<P: KeepsBatches>(processors: &[P]) -> u64
+    ensures { result ≡ (stored_of_first P.KeepsBatches.own processors.now).lost_spans }
+{
+    match processors.first() {
+        Some(first) => first.lost_spans(),
         None => 0,
     }
 }

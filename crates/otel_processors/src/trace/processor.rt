@@ -239,6 +239,14 @@ impl<E: StoresBatches, C: SpanProcessor> KeepsBatches for ProcessorOf<E, C> {
         }
     }
 
+    fn lost_spans(&self) -> u64 {
+        match self {
+            ProcessorOf::Simple(simple) => simple.exporter().lost_spans(),
+            ProcessorOf::Batch(batch) => batch.exporter().lost_spans(),
+            ProcessorOf::Custom(_) => 0,
+        }
+    }
+
     /// One of the caller's own keeps none.
     fn take_batches(&mut self, alloc: Global) -> Vec<Vec<SpanData>> {
         match self {
