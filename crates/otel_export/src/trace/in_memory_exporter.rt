@@ -129,7 +129,11 @@ impl InMemorySpanExporter {
         ensures { IfSome result (λ kept. (kept ≡ spans_kept self.now + length batch.now) × (kept ≤ self.now.max_spans)) }
     {
         let kept = self.kept_spans.checked_add(batch.len() as u64)?;
-        if kept <= self.max_spans { Some(kept) } else { None }
+        if kept <= self.max_spans {
+            Some(kept)
+        } else {
+            None
+        }
     }
 
     /// Counts a batch of so many spans that is not kept.
