@@ -22,6 +22,7 @@ use Rattle.otel_pipeline.proofs.Following.{EachFollows-append, EachFollows-asked
 use Rattle.otel_pipeline.proofs.Starting.{answers_told, refused_draws}
 use Rattle.otel_otlp.specs.Otlp.{otlp_line, otlp_lines}
 use Rattle.otel_embed.specs.Conserved.{CallsConserve, DoAll}
+use Rattle.otel_embed.specs.HeldLines.{LinesHeld}
 use Rattle.otel_embed.specs.Flows.{Did, rested, started, ended, flushed, ran, shut, drained, DoesTo, DoesToProvider, Flow, MayStart, delivered_by, handed_by, lines_held}
 
 abbrev Batches : Type 0
@@ -74,11 +75,11 @@ module _ {P S G : Type 0} (calls : Calls P S G) where
     more = adds.1.0;
     stores = ap (λ (l : Batches). l ++ (stored new).batches) adds.0 ∙ ap (λ (l : Batches). (stored old).taken ++ l) adds.1.1
         ∙ sym (append_assoc (stored old).taken (stored old).batches adds.1.0);
-    lines = ap (λ (l : Bytes). l ++ otlp_lines new.resource (stored new).batches) lines
-        ∙ ap (λ (r : PlainResource). old.lines ++ otlp_lines r (stored new).batches) resource
-        ∙ ap (λ (l : Batches). old.lines ++ otlp_lines old.resource l) adds.1.1
-        ∙ ap (λ (l : Bytes). old.lines ++ l) (flat_map-append (otlp_line old.resource) (stored old).batches adds.1.0)
-        ∙ sym (append_assoc old.lines (otlp_lines old.resource (stored old).batches) (otlp_lines old.resource adds.1.0));
+    lines = ap (λ (l : LinesHeld). l.bytes ++ otlp_lines new.resource (stored new).batches) lines
+        ∙ ap (λ (r : PlainResource). old.lines.bytes ++ otlp_lines r (stored new).batches) resource
+        ∙ ap (λ (l : Batches). old.lines.bytes ++ otlp_lines old.resource l) adds.1.1
+        ∙ ap (λ (l : Bytes). old.lines.bytes ++ l) (flat_map-append (otlp_line old.resource) (stored old).batches adds.1.0)
+        ∙ sym (append_assoc old.lines.bytes (otlp_lines old.resource (stored old).batches) (otlp_lines old.resource adds.1.0));
     resource = resource;
   }
 
@@ -127,17 +128,24 @@ module _ {P S G : Type 0} (calls : Calls P S G) where
     carries_one shut old new h = adds_carry [] old new
         (shutdown_follows old.provider.is_shut (shut_answer old.provider.is_disabled old.provider.processors) h.provider.0 old.provider new.provider h.provider.1)
         (shutdown_grows calls law (shut_answer old.provider.is_disabled old.provider.processors) old.provider.is_shut old.provider new.provider h.provider.0 h.provider.1) h.lines h.resource
-    carries_one (drained bytes) old new h =
-        let taken = taken_all calls old.provider.processors new.provider.processors h.provider.first in
-        record {
-          follows = EachFollows-same calls.processor old.provider.processors new.provider.processors (taken_told calls old.provider.processors new.provider.processors h.provider.first);
+    carries_one (drained bytes) old new h = drain_carries bytes old new h.provider h.lines h.resource
+      where
+        drain_carries : (bytes : Bytes) (old new : Flow P S G) → DoesToProvider calls (drained bytes) old.provider new.provider
+            → bytes ++ lines_held calls new ≡ lines_held calls old → new.resource ≡ old.resource → Carries [] bytes old new
+        drain_carries bytes old new (inl same) lines resource = record {
+          follows = EachFollows-same calls.processor old.provider.processors new.provider.processors (ap (λ (p : ProviderState P S G). map calls.processor.told p.processors) same);
           more = [];
-          stores = ap all_stored taken;
-          lines = ap (λ (s : StoredBatches). bytes ++ (new.lines ++ otlp_lines new.resource s.batches)) taken
-              ∙ ap (λ (l : Bytes). bytes ++ l) (append-nil new.lines)
-              ∙ h.lines
-              ∙ sym (append-nil (lines_held calls old));
-          resource = h.resource;
+          stores = ap (λ (p : ProviderState P S G). all_stored (stored_of_first calls.keeps p.processors)) same
+              ∙ sym (append-nil (all_stored (stored old)));
+          lines = lines ∙ sym (append-nil (lines_held calls old));
+          resource = resource;
+        }
+        drain_carries bytes old new (inr takes) lines resource = record {
+          follows = EachFollows-same calls.processor old.provider.processors new.provider.processors (taken_told calls old.provider.processors new.provider.processors takes.first);
+          more = [];
+          stores = ap all_stored (taken_all calls old.provider.processors new.provider.processors takes.first);
+          lines = lines ∙ sym (append-nil (lines_held calls old));
+          resource = resource;
         }
 
     all_carry : (dids : List Did) (old new : Flow P S G) → DoAll calls dids old new → Carries (flat_map delivered_by dids) (flat_map handed_by dids) old new

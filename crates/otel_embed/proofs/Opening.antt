@@ -15,7 +15,7 @@ use Rattle.otel_embed.specs.Conserved.{Hosted}
 use Rattle.otel_embed.specs.IgnoredSettings.{ListsIgnored}
 use Rattle.otel_embed.specs.Opening.{BeginsAs, IsProcessorOver, OpensBy, OpensWith}
 use Rattle.otel_embed.specs.Pipelines.{PipelineState}
-use Rattle.otel_embed.specs.SettingLines.{AreStringsOf, processor_kind, settings_of}
+use Rattle.otel_embed.specs.SettingLines.{AreStringsOf, IsMaxUndrained, processor_kind, settings_of}
 use Rattle.otel_embed.specs.declared.settings.ProcessorKind.{ProcessorKind}
 
 module _ {P S G : Type 0} (calls : Ghosts P) (config : ConfigOf S G) (made : P) where
@@ -35,14 +35,17 @@ module _ {P S G : Type 0} (calls : Ghosts P) (config : ConfigOf S G) (made : P) 
       let over_all = subst (λ (d : Bool). Builds calls (record (empty_builder batch d) { processors = made ∷ [] }) provider) off over_strings in
       subst (λ (p : ProviderState P S G). Builds calls (record (empty_builder batch is_disabled) { processors = made ∷ [] }) p) (sym same) over_all
 
--- what strings and a kind open is what the settings open that they are of, and what those open their text does
-pub opened_as : {C G : Type 0} (calls : Ghosts Hosted) (settings : TextMap) (strings : PlainConfigStrings) (kind : ProcessorKind) (stored : StoredBatches) (seed : ℕ)
-    (pipeline : PipelineState Hosted (SamplerOf C) (IdSourceOf G)) (ignored : List ℕ) → AreStringsOf settings strings → kind ≡ processor_kind settings → stored ≡ none_stored
+-- what strings and a kind open, over an exporter that may keep so many spans, is what the settings open that they are of,
+-- and what those open their text does
+pub opened_as : {C G : Type 0} (calls : Ghosts Hosted) (settings : TextMap) (strings : PlainConfigStrings) (kind : ProcessorKind) (max_spans : ℕ) (stored : StoredBatches) (seed : ℕ)
+    (pipeline : PipelineState Hosted (SamplerOf C) (IdSourceOf G)) (ignored : List ℕ) → AreStringsOf settings strings → kind ≡ processor_kind settings → IsMaxUndrained settings max_spans → stored ≡ record none_stored { max_spans = max_spans }
     → BeginsAs calls (IsProcessorOver (exporters.Memory stored) kind) strings seed pipeline → ListsIgnored settings strings ignored → OpensWith calls settings seed pipeline ignored
-opened_as calls settings strings kind stored seed pipeline ignored are_strings is_kind is_empty begins lists = record {
+opened_as calls settings strings kind max_spans stored seed pipeline ignored are_strings is_kind is_max is_empty begins lists = record {
+  max_spans = max_spans;
+  is_max = is_max;
   strings = strings;
   are_strings = are_strings;
-  begins = subst (λ (k : ProcessorKind). BeginsAs calls (IsProcessorOver (exporters.Memory none_stored) k) strings seed pipeline) is_kind
+  begins = subst (λ (k : ProcessorKind). BeginsAs calls (IsProcessorOver (exporters.Memory (record none_stored { max_spans = max_spans })) k) strings seed pipeline) is_kind
       (subst (λ (s : StoredBatches). BeginsAs calls (IsProcessorOver (exporters.Memory s) kind) strings seed pipeline) is_empty begins);
   lists = lists;
 }

@@ -6,7 +6,8 @@ use Rattle.otel_pipeline.specs.Provider.{ProviderState}
 use Rattle.otel_pipeline.specs.StartRequest.{StartRequest}
 use Rattle.otel_embed.specs.Keys.{OpenedSpans, SameSpans}
 use Rattle.otel_embed.specs.Flows.{MayStart}
-use Rattle.otel_embed.specs.Pipelines.{AskedStart, PipelineState, RefusesIn, StartsIn, taken}
+use Rattle.otel_embed.specs.Pipelines.{PipelineState, taken}
+use Rattle.otel_embed.specs.Starts.{AskedStart, RefusesIn, StartsIn}
 
 -- a start that is refused
 pub start_refused : {P S G E : Type 0} (calls : Calls P S G) (answer : Result ℕ E) (old : PipelineState P S G) (request : StartRequest) (spans : OpenedSpans) (provider : ProviderState P S G)

@@ -1,5 +1,5 @@
 -- Where the spans of a pipeline are, over every list of calls.
-use Rattle.std.specs.Prelude.{◌≡◌, ◌++◌, ℕ, List, [], ◌∷◌, Result, Some}
+use Rattle.std.specs.Prelude.{◌≡◌, ◌++◌, ℕ, List, [], ◌∷◌, Result, Some, drop, length}
 use Rattle.std.specs.List.{flat_map}
 use Rattle.otel_export.specs.PlainSpanData.{PlainSpanData, spans_in}
 use Rattle.otel_export.specs.StoredBatches.{StoredBatches, all_stored}
@@ -16,10 +16,12 @@ use Rattle.otel_pipeline.specs.StartRequest.{StartRequest}
 use Rattle.otel_processors.specs.declared.trace.processor.ProcessorOf.{ProcessorOf}
 use Rattle.otel_processors.specs.declared.trace.processor.ProcessorOf.TheVariants as kinds
 use Rattle.otel_otlp.specs.Otlp.{otlp_lines}
-use Rattle.otel_embed.specs.Flows.{Answers, Did, DoesTo, Flow, delivered_by, ended, handed_by, lines_held, rested, started}
+use Rattle.otel_embed.specs.Flows.{Answers, Did, DoesTo, Flow, delivered_by, drained, ended, handed_by, lines_held, rested, started}
+use Rattle.otel_embed.specs.Drains.{Drains}
 use Rattle.otel_embed.specs.Keys.{OpenedSpan, span_at}
 use Rattle.otel_embed.specs.KeyedSpans.{StartsAt}
-use Rattle.otel_embed.specs.Pipelines.{EditsSpan, EndsSpan, PipelineState, RefusesIn}
+use Rattle.otel_embed.specs.Pipelines.{EditsSpan, EndsSpan, PipelineState}
+use Rattle.otel_embed.specs.Starts.{RefusesIn}
 
 module _ {P S G : Type 0} (calls : Calls P S G) where
   -- calls did this to a flow, one after another
@@ -48,7 +50,8 @@ module _ {P S G : Type 0} (calls : Calls P S G) where
   FlowStays old new = new.flow ≡ record old.flow { provider = new.flow.provider }
 
   -- what each call of a pipeline does to its flow: a start, as it was asked for; a start that was refused, which delivers
-  -- nothing; an edit; an end; and a call of the provider that answers
+  -- nothing; an edit; an end; a call of the provider that answers; and a drain, which hands out
+  -- what it writes into the buffer
   pub record CallsDo : Type 0 where
     pub starts : (old new : PipelineState P S G) (request : StartRequest) (key : ℕ)
         → StartsAt calls.processor calls.sampler calls.ids old.flow.provider old.spans request key new.flow.provider
@@ -63,6 +66,10 @@ module _ {P S G : Type 0} (calls : Calls P S G) where
     pub answers : (old new : PipelineState P S G) (did : Did) (answer : Result (Unit {0}) OTelSdkError)
         → Answers calls did answer old.flow.provider new.flow.provider → FlowStays old new
         → DoesTo calls did old.flow new.flow
+    pub drains : (old new : PipelineState P S G) (buffer filled : List ℕ) (count : ℕ)
+        → Drains calls old buffer count filled new
+        → (handed : List ℕ) × (filled ≡ handed ++ drop (length handed) buffer)
+        × DoesTo calls (drained handed) old.flow new.flow
 
 -- what a host's processor exports to, and such a processor
 abbrev pub HostedExporter : Type 0

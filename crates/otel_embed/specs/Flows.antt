@@ -13,13 +13,14 @@ use Rattle.otel_pipeline.specs.SpanHistory.{PlainSpan, SpanHistory}
 use Rattle.otel_pipeline.specs.StartRequest.{StartRequest}
 use Rattle.otel_pipeline.specs.Starting.{RefusesStart, Starts}
 use Rattle.otel_otlp.specs.Otlp.{otlp_lines}
+use Rattle.otel_embed.specs.HeldLines.{LinesHeld}
 
 -- what spans flow through: the provider, whose first processor keeps what was exported; the resource under which that
 -- becomes lines; and the lines that were not handed out yet
 pub record Flow (P S G : Type 0) : Type 0 where
   pub provider : ProviderState P S G
   pub resource : PlainResource
-  pub lines : List ℕ
+  pub lines : LinesHeld
 
 -- what a start that is refused may have done to a provider: nothing, or ids were drawn; no processor was asked
 abbrev pub MayStart : {P S G : Type 0} → sampling.Ghosts S → drawing.Ghosts G → ProviderState P S G → StartRequest
@@ -50,7 +51,7 @@ handed_by _ = []
 -- all lines that a flow holds: those that were not handed out, and those of the batches that are kept
 abbrev pub lines_held : {P S G : Type 0} → Calls P S G → Flow P S G → List ℕ
 lines_held calls flow =
-    flow.lines ++ otlp_lines flow.resource (batches_of_first calls.keeps flow.provider.processors)
+    flow.lines.bytes ++ otlp_lines flow.resource (batches_of_first calls.keeps flow.provider.processors)
 
 module _ {P S G : Type 0} (calls : Calls P S G) where
   -- what a flush, a run of what is due or a shutdown does to a provider, which answers this
@@ -74,15 +75,16 @@ module _ {P S G : Type 0} (calls : Calls P S G) where
   DoesToProvider (ran moment) old new =
       (answer : Result (Unit {0}) OTelSdkError) × Answers (ran moment) answer old new
   DoesToProvider shut old new = (answer : Result (Unit {0}) OTelSdkError) × Answers shut answer old new
-  DoesToProvider (drained bytes) old new = TakesShown calls.processor calls.queues calls.keeps old new
+  DoesToProvider (drained bytes) old new =
+      (new ≡ old) ⊎ TakesShown calls.processor calls.queues calls.keeps old new
 
-  -- what is done to lines: they stay, but what is handed out, and what was kept until then, become one
-  abbrev pub DoesToLines : Did → Flow P S G → List ℕ → Type 0
-  DoesToLines (drained bytes) old lines = bytes ++ lines ≡ lines_held calls old
-  DoesToLines _ old lines = lines ≡ old.lines
+  -- what is done to lines: they stay; but what is handed out and what is left are those that there were
+  abbrev pub DoesToLines : Did → Flow P S G → Flow P S G → Type 0
+  DoesToLines (drained bytes) old new = bytes ++ lines_held calls new ≡ lines_held calls old
+  DoesToLines _ old new = new.lines ≡ old.lines
 
   -- what a call did to a flow
   pub record DoesTo (did : Did) (old new : Flow P S G) : Type 0 where
     pub provider : DoesToProvider did old.provider new.provider
     pub resource : new.resource ≡ old.resource
-    pub lines : DoesToLines did old new.lines
+    pub lines : DoesToLines did old new

@@ -2,8 +2,11 @@ pub mod Keys
 pub mod KeyedSpans
 pub mod HostValues
 pub mod Headers
+pub mod HeldLines
 pub mod Flows
 pub mod Pipelines
+pub mod Starts
+pub mod Drains
 pub mod Conserved
 pub mod SettingLines
 pub mod IgnoredSettings

@@ -16,9 +16,10 @@ use Rattle.otel_sampling.specs.declared.trace.config.ConfigOf.{ConfigOf}
 use Rattle.otel_sampling.specs.declared.trace.id_generator.IdSourceOf.{IdSourceOf}
 use Rattle.otel_sampling.specs.declared.trace.sampler.SamplerOf.{SamplerOf}
 use Rattle.otel_embed.specs.Conserved.{Hosted, HostedExporter}
+use Rattle.otel_embed.specs.HeldLines.{no_lines}
 use Rattle.otel_embed.specs.IgnoredSettings.{ListsIgnored}
-use Rattle.otel_embed.specs.Pipelines.{PipelineState}
-use Rattle.otel_embed.specs.SettingLines.{AreStringsOf, processor_kind, settings_of}
+use Rattle.otel_embed.specs.Pipelines.{PipelineState, gone_on}
+use Rattle.otel_embed.specs.SettingLines.{AreStringsOf, IsMaxUndrained, processor_kind, settings_of}
 use Rattle.otel_embed.specs.declared.settings.ProcessorKind.{ProcessorKind}
 use Rattle.otel_embed.specs.declared.settings.ProcessorKind.TheVariants as kinds
 
@@ -43,7 +44,7 @@ pub record BeginsAs {P C G : Type 0} (calls : Ghosts P) (IsProcessor : PlainBatc
     is_disabled = is_true strings.sdk_disabled;
   }) pipeline.flow.provider
   pub rest : pipeline ≡ record {
-    flow = record { provider = pipeline.flow.provider; resource = config.resource; lines = [] };
+    flow = record { provider = pipeline.flow.provider; resource = config.resource; lines = no_lines };
     scopes = scope_named (codes "otel") ∷ [];
     spans = record { entries = []; next_key = 1 };
     gathered = [];
@@ -58,13 +59,15 @@ IsProcessorOver exporter kind strings made = MatchKind kind (made ≡ processors
     ((config : PlainBatchConfig) × IsBatchConfigOf strings config
     × (made ≡ processors.Batch (eager_processor exporter config)))
 
--- a pipeline that settings and a seed open: over an exporter in memory that stores nothing yet, with a list of what is
--- ignored
+-- a pipeline that settings and a seed open: over an exporter in memory that stores nothing yet and may keep so many spans,
+-- with a list of what is ignored
 pub record OpensWith {C G : Type 0} (calls : Ghosts Hosted) (settings : TextMap) (seed : ℕ)
     (pipeline : PipelineState Hosted (SamplerOf C) (IdSourceOf G)) (ignored : List ℕ) : Type 0 where
+  pub max_spans : ℕ
+  pub is_max : IsMaxUndrained settings max_spans
   pub strings : PlainConfigStrings
   pub are_strings : AreStringsOf settings strings
-  pub begins : BeginsAs calls (IsProcessorOver (exporters.Memory none_stored) (processor_kind settings)) strings seed
+  pub begins : BeginsAs calls (IsProcessorOver (exporters.Memory (record none_stored { max_spans = max_spans })) (processor_kind settings)) strings seed
       pipeline
   pub lists : ListsIgnored settings strings ignored
 
@@ -72,3 +75,11 @@ pub record OpensWith {C G : Type 0} (calls : Ghosts Hosted) (settings : TextMap)
 abbrev pub OpensBy : {C G : Type 0} → Ghosts Hosted → List ℕ → ℕ → PipelineState Hosted (SamplerOf C) (IdSourceOf G)
     → List ℕ → Type 0
 OpensBy calls text seed pipeline ignored = OpensWith calls (settings_of text) seed pipeline ignored
+
+-- a pipeline goes on in the child of a fork, by its settings and another seed
+pub record GoesOn {C G : Type 0} (calls : Ghosts Hosted) (settings : TextMap) (seed : ℕ)
+    (old new : PipelineState Hosted (SamplerOf C) (IdSourceOf G)) : Type 0 where
+  pub fresh : PipelineState Hosted (SamplerOf C) (IdSourceOf G)
+  pub ignored : List ℕ
+  pub opens : OpensWith calls settings seed fresh ignored
+  pub goes_on : new ≡ gone_on old fresh

@@ -7,7 +7,7 @@ use Rattle.std.specs.Option.{option_or}
 use Rattle.std.specs.Str.Lines.{lines}
 use Rattle.opentelemetry.specs.TextMap.{TextMap}
 use Rattle.opentelemetry.specs.Tracestate.{is_equals}
-use Rattle.otel_sampling.specs.ConfigStrings.{PlainConfigStrings}
+use Rattle.otel_sampling.specs.ConfigStrings.{IsConfiguredNumber, PlainConfigStrings}
 use Rattle.otel_host.specs.Environment.{ReadsResource, ReadsSettings}
 use Rattle.otel_embed.specs.declared.settings.ProcessorKind.{ProcessorKind}
 use Rattle.otel_embed.specs.declared.settings.ProcessorKind.TheVariants as kinds
@@ -68,3 +68,11 @@ named_kind settings = option_and_then kind_named (get settings processor_name)
 -- the kind of processor that settings ask for: an eager one where they name none
 abbrev pub processor_kind : TextMap → ProcessorKind
 processor_kind settings = unwrap_or (named_kind settings) kinds.Eager
+
+-- the setting that says how many exported spans are kept at most until they are drained
+abbrev pub max_undrained_name : List ℕ
+max_undrained_name = codes "OTEL_C_MAX_UNDRAINED_SPANS"
+
+-- how many that are: 65,536 where it is not set, or does not read
+abbrev pub IsMaxUndrained : TextMap → ℕ → Type 0
+IsMaxUndrained settings most = IsConfiguredNumber 64 (get settings max_undrained_name) 65_536 most

@@ -1,13 +1,14 @@
 //! Which settings are ignored: those that nobody knows, and those whose values do not read.
 
-ghost use Rattle.std.specs.Prelude.{◌≡◌, ◌++◌, ◌∷◌, [], OnOk, bytes_eq, filter, map, string_bytes};
-ghost use Rattle.std.specs.FinMap.{keys};
+ghost use Rattle.std.specs.Prelude.{◌≡◌, ◌↔◌, ◌++◌, ◌∷◌, [], ℕ, IsTrue, List, OnOk, Some, bytes_eq, filter, map, string_bytes};
+ghost use Rattle.std.specs.FinMap.{get, keys};
 ghost use Rattle.std.specs.List.{list_any};
 ghost use Rattle.opentelemetry.specs.TextMap.{text_map};
 ghost use Rattle.otel_sampling.specs.ConfigFaults.{setting_name};
-ghost use Rattle.otel_embed.specs.IgnoredSettings.{is_unread, known_names, name_lines};
+ghost use Rattle.otel_embed.specs.IgnoredSettings.{NamesUnreadMax, SaysMax, is_unread, known_names, name_lines};
+ghost use Rattle.otel_embed.specs.SettingLines.{max_undrained_name};
 
-use crate::settings::{PROCESSOR, named_kind};
+use crate::settings::{MAX_UNDRAINED_SPANS, PROCESSOR, named_kind};
 use otel_sampling::trace::SettingFault;
 use std::alloc::AllocError;
 use std::collections::BTreeMap;
@@ -26,6 +27,38 @@ pub(crate) fn push_unread(
         }
     }
     Ok(())
+}
+
+/// Appends the name of the setting of how many spans may be kept, where its text says none.
+pub(crate) fn push_unread_max(
+    names: &mut String,
+    values: &BTreeMap<String, String>,
+) -> Result<(), AllocError>
+    ensures { OnOk result ((unread : List (List ℕ)) × NamesUnreadMax (get (text_map values.now) max_undrained_name) unread
+        × (string_bytes names.new ≡ string_bytes names.old ++ name_lines unread)) }
+{
+    match values.get(MAX_UNDRAINED_SPANS) {
+        Some(text) => push_unless_max(names, text.as_str()),
+        None => Ok(()),
+    }
+}
+
+/// The same, where the setting has a text.
+fn push_unless_max(names: &mut String, text: &str) -> Result<(), AllocError>
+    ensures { OnOk result ((unread : List (List ℕ)) × NamesUnreadMax (Some text.now) unread
+        × (string_bytes names.new ≡ string_bytes names.old ++ name_lines unread)) }
+{
+    if says_max(text) {
+        return Ok(());
+    }
+    push_line(names, MAX_UNDRAINED_SPANS)
+}
+
+/// Whether a text says how many spans may be kept, or nothing.
+fn says_max(text: &str) -> bool
+    ensures { IsTrue result ↔ SaysMax text.now }
+{
+    text.is_empty() || text.parse::<u64>().is_ok()
 }
 
 /// Appends the names of the settings whose strings do not read.
@@ -59,6 +92,7 @@ fn is_known(name: &str) -> bool
 {
     match name {
         PROCESSOR
+        | MAX_UNDRAINED_SPANS
         | "OTEL_RESOURCE_ATTRIBUTES"
         | "OTEL_SERVICE_NAME"
         | "OTEL_BSP_SCHEDULE_DELAY"

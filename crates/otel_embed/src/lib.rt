@@ -6,7 +6,10 @@
 mod changes_span;
 pub mod error;
 mod flow;
+mod given;
 mod headers;
+mod held_lines;
+pub mod host_attribute;
 pub mod host_headers;
 mod ignored;
 pub mod laws;
@@ -21,6 +24,7 @@ pub mod span_calls;
 pub mod values;
 
 pub use error::PipelineError;
+pub use host_attribute::HostAttribute;
 pub use host_headers::HostHeaders;
 pub use numbers::Numbers;
 pub use pipeline::Pipeline;

@@ -46,6 +46,14 @@ impl OpenSpans {
         }
     }
 
+    /// Gives spans of which none is open the keys that come after those of others.
+    pub(crate) fn go_on_after(&mut self, others: &OpenSpans)
+        ensures { self.new ≡ record { entries = []; next_key = others.now.next_key } }
+    {
+        self.spans.clear();
+        self.next_key = others.next_key;
+    }
+
     /// How many spans are open.
     pub(crate) fn len(&self) -> usize
         ensures { result ≡ length self.now.entries }

@@ -1,8 +1,8 @@
 //! The pipeline of a host: a processor over an exporter in memory, by the settings that the host hands in.
 
-ghost use Rattle.std.specs.Prelude.{◌≡◌, ◌++◌, ◌∷◌, [], IfOk, string_bytes};
-ghost use Rattle.otel_embed.specs.Opening.{BeginsAs, MatchKind, OpensBy, OpensWith};
-ghost use Rattle.otel_embed.specs.SettingLines.{AreStringsOf};
+ghost use Rattle.std.specs.Prelude.{◌≡◌, ◌++◌, ◌∷◌, [], IfOk, OnErr, OnOk, string_bytes};
+ghost use Rattle.otel_embed.specs.Opening.{BeginsAs, GoesOn, MatchKind, OpensBy, OpensWith};
+ghost use Rattle.otel_embed.specs.SettingLines.{AreStringsOf, settings_of};
 
 use crate::error::PipelineError;
 use crate::pipeline_of::PipelineOf;
@@ -36,13 +36,18 @@ pub type HostInside = PipelineOf<HostProcessor, HostSampler, HostIds>;
 /// The pipeline of a host. Where it is let go, its open spans are abandoned and its provider is closed.
 pub struct Pipeline {
     pub inside: HostInside,
+    settings: Settings,
     // The names of the settings that were ignored, a line each.
     ignored: String,
 }
 
 impl Drop for Pipeline {
     fn drop(self) {
-        let Pipeline { inside, ignored: _ } = self;
+        let Pipeline {
+            inside,
+            settings: _,
+            ignored: _,
+        } = self;
         let _report = inside.close();
     }
 }
@@ -92,27 +97,33 @@ fn pipeline_with<P: FromExporter>(
     Ok(PipelineOf::over(alloc, provider, resource, tracers))
 }
 
-/// A pipeline over an exporter in memory, by settings and the strings that they are.
+/// A pipeline over an exporter in memory, by settings and the strings that they are; and the names of the settings that
+/// were ignored.
 fn open_as(
     alloc: Global,
     settings: &Settings,
     strings: &ConfigStrings,
     seed: u64,
-) -> Result<Pipeline, AllocError>
+) -> Result<(HostInside, String), AllocError>
     requires { AreStringsOf settings.now strings.now }
-    ensures { IfOk result (λ pipeline. OpensWith
-        ⟦<HostProcessor as SpanProcessor>⟧ settings.now seed pipeline.inside (string_bytes pipeline.ignored)) }
+    ensures { IfOk result (λ opened. OpensWith
+        ⟦<HostProcessor as SpanProcessor>⟧ settings.now seed opened.0 (string_bytes opened.1)) }
 {
     let ignored = settings.ignored(alloc, strings)?;
-    let exporter = ExporterOf::Memory(InMemorySpanExporter::new(alloc));
+    let max_spans = settings.max_undrained_spans();
+    let exporter = ExporterOf::Memory(InMemorySpanExporter::with_max_spans(alloc, max_spans));
     let inside = pipeline_with(alloc, settings.processor_kind(), strings, seed, exporter)?;
-    Ok(Pipeline { inside, ignored })
+    Ok((inside, ignored))
 }
 
 /// The same, by settings alone.
-fn open_with(alloc: Global, settings: &Settings, seed: u64) -> Result<Pipeline, AllocError>
-    ensures { IfOk result (λ pipeline. OpensWith
-        ⟦<HostProcessor as SpanProcessor>⟧ settings.now seed pipeline.inside (string_bytes pipeline.ignored)) }
+fn open_with(
+    alloc: Global,
+    settings: &Settings,
+    seed: u64,
+) -> Result<(HostInside, String), AllocError>
+    ensures { IfOk result (λ opened. OpensWith
+        ⟦<HostProcessor as SpanProcessor>⟧ settings.now seed opened.0 (string_bytes opened.1)) }
 {
     let strings = settings.strings(alloc)?;
     let opened = open_as(alloc, settings, &strings, seed);
@@ -123,16 +134,38 @@ fn open_with(alloc: Global, settings: &Settings, seed: u64) -> Result<Pipeline, 
 impl Pipeline {
     /// Opens a pipeline. The settings are lines `NAME=VALUE`; the seed decides all ids.
     pub fn open(alloc: Global, settings: &[u8], seed: u64) -> Result<Pipeline, PipelineError>
-        ensures { IfOk result (λ pipeline. OpensBy
+        ensures opens { IfOk result (λ pipeline. OpensBy
             ⟦<HostProcessor as SpanProcessor>⟧ settings.now seed pipeline.inside (string_bytes pipeline.ignored)) }
+        ensures settings { IfOk result (λ pipeline. pipeline.settings ≡ settings_of settings.now) }
     {
         let Ok(text) = str::from_utf8(settings) else {
             return Err(PipelineError::NotUtf8);
         };
         let settings = Settings::read(alloc, text)?;
-        let opened = open_with(alloc, &settings, seed);
-        drop(settings);
-        Ok(opened?)
+        match open_with(alloc, &settings, seed) {
+            Ok((inside, ignored)) => Ok(Pipeline {
+                inside,
+                settings,
+                ignored,
+            }),
+            Err(error) => {
+                drop(settings);
+                Err(PipelineError::from(error))
+            }
+        }
+    }
+
+    /// Goes on in the child of a fork as a pipeline that was opened with the same settings and this seed. What is open,
+    /// waits or was exported is the parent's, and is forgotten. Tracers keep their numbers, and no key is used again.
+    pub fn go_on(&mut self, alloc: Global, seed: u64) -> Result<(), PipelineError>
+        ensures ok { OnOk result (GoesOn
+            ⟦<HostProcessor as SpanProcessor>⟧ self.old.settings seed self.old.inside self.new.inside
+            × (self.new.settings ≡ self.old.settings) × (self.new.ignored ≡ self.old.ignored)) }
+        ensures err { OnErr result (self.new ≡ self.old) }
+    {
+        let (fresh, _ignored) = open_with(alloc, &self.settings, seed)?;
+        self.inside.go_on_as(fresh);
+        Ok(())
     }
 
     /// The names of the settings that were ignored, each with a line feed after it: those that nobody knows, and those

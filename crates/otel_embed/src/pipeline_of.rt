@@ -6,23 +6,12 @@ ghost use Rattle.std.specs.Prelude.{None, Some, map, slice_get};
 ghost use Rattle.std.specs.Prelude.{string_bytes};
 ghost use Rattle.otel_embed.specs.Keys.{IsRefusedAt, OpenedSpan, span_at};
 ghost use Rattle.otel_pipeline.specs.SpanHistory.{set_attribute};
-ghost use Rattle.otel_embed.specs.Pipelines.{
-  Abandons,
-  AddsTracer,
-  EditsSpan,
-  EndNeedsNone,
-  EndsSpan,
-  IsContextUnder,
-  RefusesIn,
-  StartsIn,
-  Stays,
-  asked_start,
-  new_pipeline,
-  taken,
-};
+ghost use Rattle.otel_embed.specs.Pipelines.{Abandons, AddsTracer, EditsSpan, EndNeedsNone, EndsSpan, Stays, gone_on, new_pipeline, taken};
+ghost use Rattle.otel_embed.specs.Starts.{IsContextUnder, RefusesIn, StartsIn, asked_start};
 
 use crate::changes_span::{Attributes, ChangesSpan};
 use crate::error::PipelineError;
+use crate::held_lines::HeldLines;
 use crate::open_spans::OpenSpans;
 use opentelemetry::trace::{SpanBuilder, SpanKind};
 use opentelemetry::{Context, InstrumentationScope, KeyValue, Moment};
@@ -40,7 +29,7 @@ pub struct PipelineOf<P, S, G> {
     pub(crate) alloc: Global,
     pub(crate) provider: ProviderOf<P, S, G>,
     pub(crate) resource: Resource,
-    pub(crate) lines: Vec<u8>,
+    pub(crate) lines: HeldLines,
     pub(crate) tracers: Vec<SdkTracer>,
     pub(crate) spans: OpenSpans,
     pub(crate) gathered: Vec<KeyValue>,
@@ -58,7 +47,7 @@ impl<P, S, G> Model for PipelineOf<P, S, G> {
     ghost coded = { Prim.hlevel (codes, resource_code) };
 
     ghost view = { λ a. record {
-      flow = record { provider = a.provider; resource = a.resource; lines = a.lines.items };
+      flow = record { provider = a.provider; resource = a.resource; lines = a.lines };
       scopes = a.tracers.items;
       spans = a.spans;
       gathered = a.gathered.items;
@@ -114,7 +103,7 @@ impl<P, S, G> PipelineOf<P, S, G> {
             alloc,
             provider,
             resource,
-            lines: Vec::new(alloc),
+            lines: HeldLines::new(alloc),
             tracers,
             spans: OpenSpans::new(alloc),
             gathered: Vec::new(alloc),
@@ -124,6 +113,17 @@ impl<P, S, G> PipelineOf<P, S, G> {
 }
 
 impl<P: CountsLeftSpans, S: Drop, G: Drop> PipelineOf<P, S, G> {
+    /// Goes on in the child of a fork as another that was opened anew, with its own tracers by their numbers, and with
+    /// keys that it did not use. What it was before is spent: the parent has it too.
+    pub(crate) fn go_on_as(&mut self, fresh: PipelineOf<P, S, G>)
+        ensures { self.new ≡ gone_on self.old fresh }
+    {
+        let mut fresh = fresh;
+        mem::swap(&mut self.tracers, &mut fresh.tracers);
+        fresh.spans.go_on_after(&self.spans);
+        let _report = mem::replace(self, fresh).close();
+    }
+
     /// Spends the pipeline: its spans are abandoned, and its provider is closed.
     pub fn close(self) -> CloseReport {
         let PipelineOf {
@@ -171,6 +171,14 @@ impl<P: KeepsBatches, S: ShouldSample, G: GivesIds> PipelineOf<P, S, G> {
         ensures rest { self.new ≡ taken self.old }
     {
         mem::replace(&mut self.gathered, Vec::new(self.alloc))
+    }
+
+    /// Exchanges the attributes that were gathered for others.
+    pub(crate) fn swap_gathered(&mut self, others: &mut Vec<KeyValue>)
+        ensures here { self.new ≡ record self.old { gathered = others.old.items } }
+        ensures there { others.new.items ≡ self.old.gathered }
+    {
+        mem::swap(&mut self.gathered, others);
     }
 
     /// The context in which a child of the span of a key starts; for 0 that of a root.

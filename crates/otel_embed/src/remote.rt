@@ -5,8 +5,10 @@ ghost use Rattle.opentelemetry.specs.Plain.{PlainContext};
 ghost use Rattle.opentelemetry.specs.PlainContexts.{current_span_context};
 ghost use Rattle.otel_embed.specs.Headers.{IsContextOf, plain_headers};
 ghost use Rattle.otel_embed.specs.Keys.{span_at};
-ghost use Rattle.otel_embed.specs.Pipelines.{LinksTo, LinksToRemote, RefusesIn, SetsHeadersOf, StartsIn, Stays};
-ghost use Rattle.otel_embed.specs.Pipelines.{asked_start, taken};
+ghost use Rattle.otel_embed.specs.Pipelines.{LinksTo, LinksToRemote, SetsHeadersOf, Stays};
+ghost use Rattle.otel_embed.specs.Starts.{RefusesIn, StartsIn};
+ghost use Rattle.otel_embed.specs.Pipelines.{taken};
+ghost use Rattle.otel_embed.specs.Starts.{asked_start};
 
 use crate::error::PipelineError;
 use crate::headers::inject;

@@ -1,13 +1,14 @@
 //! The settings of a pipeline: lines `NAME=VALUE`, as the variables of an environment. Their names are those that the
 //! OpenTelemetry specification gives ("Environment Variable Specification"), and one of our own for the processor.
 
-ghost use Rattle.std.specs.Prelude.{◌≡◌, IfOk, OnOk, string_bytes};
+ghost use Rattle.std.specs.Prelude.{◌≡◌, IfOk, OnOk, Some, string_bytes};
 ghost use Rattle.opentelemetry.specs.TextMap.{text_map};
+ghost use Rattle.otel_sampling.specs.ConfigStrings.{IsConfiguredNumber};
 ghost use Rattle.otel_embed.specs.IgnoredSettings.{ListsIgnored};
-ghost use Rattle.otel_embed.specs.SettingLines.{AreStringsOf, kind_named, named_kind, processor_kind, setting_of};
+ghost use Rattle.otel_embed.specs.SettingLines.{AreStringsOf, IsMaxUndrained, kind_named, named_kind, processor_kind, setting_of};
 ghost use Rattle.otel_embed.specs.SettingLines.{settings_of, with_line};
 
-use crate::ignored::{push_faults, push_unread};
+use crate::ignored::{push_faults, push_unread, push_unread_max};
 use otel_host::{EnvError, Variables, config_strings_in};
 use otel_sampling::trace::ConfigStrings;
 use std::alloc::{AllocError, Global};
@@ -16,6 +17,12 @@ use std::marker::Model;
 
 /// The setting that says when a processor exports.
 pub(crate) const PROCESSOR: &str = "OTEL_SPAN_PROCESSOR";
+
+/// The setting that says how many exported spans are kept at most until they are drained.
+pub(crate) const MAX_UNDRAINED_SPANS: &str = "OTEL_C_MAX_UNDRAINED_SPANS";
+
+/// How many that are where nothing else is said.
+const MAX_UNDRAINED_SPANS_DEFAULT: u64 = 65_536;
 
 /// When ended spans are exported.
 #[derive(Clone, Copy, Debug, PartialEq, Eq)]
@@ -91,6 +98,16 @@ impl Settings {
         named_kind(&self.values).unwrap_or(ProcessorKind::Eager)
     }
 
+    /// How many exported spans are kept at most until they are drained.
+    pub(crate) fn max_undrained_spans(&self) -> u64
+        ensures { IsMaxUndrained self.now result }
+    {
+        match self.values.get(MAX_UNDRAINED_SPANS) {
+            Some(text) => max_said(text.as_str()),
+            None => MAX_UNDRAINED_SPANS_DEFAULT,
+        }
+    }
+
     /// The names of the settings that are ignored, each with a line feed after it: those that nobody knows, and those
     /// whose values do not read.
     pub(crate) fn ignored(
@@ -102,10 +119,18 @@ impl Settings {
     {
         let mut names = String::new(alloc);
         push_unread(&mut names, &self.values)?;
+        push_unread_max(&mut names, &self.values)?;
         let faults = strings.faults(alloc)?;
         push_faults(&mut names, &faults)?;
         Ok(names)
     }
+}
+
+/// How many exported spans a text says that are kept at most.
+fn max_said(text: &str) -> u64
+    ensures { IsConfiguredNumber 64 (Some text.now) 65_536 result }
+{
+    text.parse::<u64>().unwrap_or(MAX_UNDRAINED_SPANS_DEFAULT)
 }
 
 /// The name and the value of a line.

@@ -10,8 +10,10 @@ ghost use Rattle.otel_pipeline.specs.Exceptions.{exception_event};
 ghost use Rattle.otel_pipeline.specs.SpanHistory.{add_event, set_attribute, set_status, update_name};
 ghost use Rattle.otel_embed.specs.Headers.{IsContextOf, plain_headers};
 ghost use Rattle.otel_embed.specs.HostValues.{IsKind, IsStatus, IsValueOf, host_exception, host_scope};
-ghost use Rattle.otel_embed.specs.Pipelines.{AddsTracer, EditsSpan, Identifies, IsContextUnder};
-ghost use Rattle.otel_embed.specs.Pipelines.{RefusesIn, SaysHeaders, StartsIn, Stays, asked_start, taken};
+ghost use Rattle.otel_embed.specs.Pipelines.{AddsTracer, EditsSpan, Identifies};
+ghost use Rattle.otel_embed.specs.Starts.{IsContextUnder};
+ghost use Rattle.otel_embed.specs.Pipelines.{SaysHeaders, Stays, taken};
+ghost use Rattle.otel_embed.specs.Starts.{RefusesIn, StartsIn, asked_start};
 
 use crate::changes_span::MetError;
 use crate::error::PipelineError;

@@ -1,7 +1,8 @@
 use Rattle.std.proofs.Common.{[], OnErr, subst}
 use Rattle.otel_pipeline.specs.Calls.{calls_of}
 use Rattle.otel_pipeline.specs.StartRequest.{start_request}
-use Rattle.otel_embed.specs.Pipelines.{PipelineState, RefusesIn}
+use Rattle.otel_embed.specs.Pipelines.{PipelineState}
+use Rattle.otel_embed.specs.Starts.{RefusesIn}
 use Rattle.otel_embed.proofs.Refusing.{start_refused}
 use Rattle.otel_embed.proofs.pipeline_of.PipelineOf.start_in.Goals as goal
 
@@ -9,7 +10,7 @@ pub returns-clause-err : goal.returns-clause-err
 returns-clause-err g c =
     let calls = calls_of g.P.SpanProcessor g.P.Timed g.P.CountsLeftSpans g.P.KeepsBatches g.S.ShouldSample g.G.GivesIds in
     let begun : PipelineState g.row.P.Denot g.row.S.Denot g.row.G.Denot = record {
-      flow = record { provider = c.self.inside.provider; resource = c.self.inside.resource; lines = c.self.inside.lines.items };
+      flow = record { provider = c.self.inside.provider; resource = c.self.inside.resource; lines = c.self.inside.lines };
       scopes = c.self.inside.tracers.items;
       spans = c.self.inside.spans;
       gathered = c.self.inside.gathered.items;
