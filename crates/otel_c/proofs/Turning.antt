@@ -1,7 +1,8 @@
 -- What was done to a pipeline was done to that of its handle.
-use Rattle.std.proofs.Common.{◌≡◌, ◌≢◌, ◌⊎◌, ◌∙◌, inl, inr, ℕ, Bool, false, Option, None, Some, is_some, Result, Ok, Err, IfErr, IfOk, IfSome, IsOk, IsSome, OnErr, ap, refl, sym, subst}
+use Rattle.std.proofs.Common.{◌≡◌, ◌≢◌, ◌≤◌, ◌<◌, ◌⊎◌, ◌∙◌, inl, inr, ℕ, Bool, false, true, Option, None, Some, is_some, Result, Ok, Err, IfErr, IfOk, IfSome, IsOk, IsSome, OnErr, OnOk, ap, refl, sym, subst}
 use Rattle.otel_embed.specs.Flows.{Did}
-use Rattle.otel_embed.specs.Pipelines.{FlowsBy, PipelineState}
+use Rattle.otel_embed.specs.Pipelines.{PipelineState}
+use Rattle.otel_embed.specs.Drains.{FlowsBy}
 use Rattle.otel_embed.specs.declared.pipeline.Pipeline.{Pipeline}
 use Rattle.otel_pipeline.specs.Calls.{Calls}
 use Rattle.otel_embed.specs.Keys.{OpenedSpan, OpenedSpans, span_at}
@@ -61,3 +62,19 @@ pub ok_where_open : (spans : OpenedSpans) (key : ℕ) (answer : Result (Unit {0}
     → IsOk answer
 ok_where_open spans key (Ok _) why some = refl
 ok_where_open spans key (Err error) why some = absurd (let no : IsSome {T = OpenedSpan} None = subst IsSome why.1 some in cc)
+
+-- what a call did where its status is 0, and where it is not
+pub did : (Does : Type 0) (answer : Result (Unit {0}) PipelineError) (status : ℕ) → (IsOk answer → status ≡ 0) × (status ≡ 0 → IsOk answer) → OnOk answer Does → status ≡ 0 → Does
+did Does (Ok _) status says does _ = does
+did Does (Err _) status says _ is_ok = absurd (let no : false ≡ true = says.1 is_ok in cc)
+
+pub did_not : (Fails : Type 0) (answer : Result (Unit {0}) PipelineError) (status : ℕ) → (IsOk answer → status ≡ 0) × (status ≡ 0 → IsOk answer) → OnErr answer Fails → status ≢ 0 → Fails
+did_not Fails (Ok _) status says _ failed = absurd (failed (says.0 refl))
+did_not Fails (Err _) status says fails _ = fails
+
+-- what a drain that answers a count says, where its status says whether that fits
+pub counted : (Says : ℕ → Type 0) (answer : Result ℕ PipelineError) (status room now was : ℕ) → IfOk answer (λ count. (now ≡ count) × (count ≤ room → status ≡ 0) × (room < count → status ≡ 8))
+    → OnErr answer ((status ≢ 0) × (status ≢ 8) × (now ≡ was)) → IfOk answer Says → (status ≡ 0) ⊎ (status ≡ 8) → Says now
+counted Says (Ok count) status room now was written _ said _ = subst Says (sym written.0) said
+counted Says (Err _) status room now was _ refused _ (inl is) = absurd (refused.0 is)
+counted Says (Err _) status room now was _ refused _ (inr is) = absurd (refused.1 is)

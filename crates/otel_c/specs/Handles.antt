@@ -79,6 +79,14 @@ pub record ShowsNumbers (numbers : Numbers) (counts : Counts) : Type 0 where
   pub dropped_spans : counts.dropped_spans ≡ numbers.dropped_spans
   pub refused_spans : counts.refused_spans ≡ numbers.refused_spans
   pub lost_batches : counts.lost_batches ≡ numbers.lost_batches
+  pub lost_spans : counts.lost_spans ≡ numbers.lost_spans
+  pub undrained_spans : counts.undrained_spans ≡ numbers.undrained_spans
+  pub undrained_bytes : counts.undrained_bytes ≡ numbers.undrained_bytes
+
+-- a call that hands out bytes says by its status whether the buffer had room for them
+pub record SaysWhetherFits (status room count : ℕ) : Type 0 where
+  pub fits : status ≡ 0 → count ≤ room
+  pub too_small : status ≡ 8 → room < count
 
 -- a text was copied to the beginning of a buffer where that has room for it, and else nothing; its length was answered
 pub record CopiesText (text : List ℕ) (buffer : List ℕ) (status text_length : ℕ) (filled : List ℕ) : Type 0 where

@@ -6,9 +6,11 @@
 mod attributes;
 mod edits;
 mod flow;
+mod given;
 mod handle;
 mod loose;
 mod opening;
 mod remote;
 mod spans;
 mod status;
+mod version;

@@ -1,15 +1,16 @@
 //! A pipeline's beginning and end.
 
 ghost use Rattle.std.specs.Prelude.{◌≡◌, ◌≢◌, ◌↔◌, ◌⊎◌, None, false, string_bytes, true};
-ghost use Rattle.otel_c.specs.Handles.{CopiesText, Holds, Turns};
+ghost use Rattle.otel_c.specs.Handles.{Answers, CopiesText, Holds, Turns};
 ghost use Rattle.otel_embed.specs.HostValues.{host_scope};
-ghost use Rattle.otel_embed.specs.Opening.{OpensBy};
+ghost use Rattle.otel_embed.specs.Opening.{GoesOn, OpensBy};
+ghost use Rattle.otel_embed.specs.SettingLines.{settings_of};
 ghost use Rattle.otel_embed.specs.Pipelines.{AddsTracer};
 
 use crate::handle::Handle;
 use crate::status::{
-    OTEL_ALREADY_OPEN, OTEL_CLOSED, OTEL_OK, OTEL_OUT_OF_MEMORY, status_of, write_number,
-    write_text,
+    OTEL_ALREADY_OPEN, OTEL_CLOSED, OTEL_OK, OTEL_OUT_OF_MEMORY, status_of, status_of_result,
+    write_number, write_text,
 };
 use otel_embed::Pipeline;
 use otel_embed::pipeline::HostProcessor;
@@ -23,6 +24,7 @@ pub extern "C" fn otel_open(alloc: Global, handle: &mut Handle, settings: &[u8],
     ensures ok { result ≡ 0 → (handle.old.held.pipeline ≡ None) × Holds (λ p. OpensBy
         ⟦<HostProcessor as SpanProcessor>⟧ settings.now seed p.inside (string_bytes p.ignored))
         handle.new.held.pipeline }
+    ensures settings { result ≡ 0 → Holds (λ p. p.settings ≡ settings_of settings.now) handle.new.held.pipeline }
     ensures refused { result ≢ 0 → handle.new.held.pipeline ≡ handle.old.held.pipeline }
 {
     if handle.is_open {
@@ -83,6 +85,22 @@ pub extern "C" fn otel_tracer(
     let made = pipeline.inside.tracer(name, version, schema_url);
     handle.put(alloc, pipeline);
     write_number(made, tracer)
+}
+
+/// Goes on in the child of a fork, whose parent has what is open, waits or was exported: as a pipeline that was opened
+/// with the same settings and this seed, with the same tracers, and with keys that were not used.
+#[unsafe(no_mangle)]
+pub extern "C" fn otel_after_fork(alloc: Global, handle: &mut Handle, seed: u64) -> u32
+    ensures { Answers result (λ p q. GoesOn ⟦<HostProcessor as SpanProcessor>⟧ p.settings seed p.inside q.inside
+        × (q.settings ≡ p.settings) × (q.ignored ≡ p.ignored)) (λ p q. q ≡ p)
+        handle.old.held.pipeline handle.new.held.pipeline }
+{
+    let Some(mut pipeline) = handle.take(alloc) else {
+        return OTEL_CLOSED;
+    };
+    let gone_on = pipeline.go_on(alloc, seed);
+    handle.put(alloc, pipeline);
+    status_of_result(gone_on)
 }
 
 /// Lets go of all that the handle owns; it may be opened again.

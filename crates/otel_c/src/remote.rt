@@ -5,7 +5,8 @@ ghost use Rattle.opentelemetry.specs.declared.trace.span_kind.SpanKind.{SpanKind
 ghost use Rattle.otel_c.specs.Handles.{Answers, CopiesText, Holds};
 ghost use Rattle.otel_embed.specs.Headers.{IsContextOf};
 ghost use Rattle.otel_embed.specs.HostValues.{IsKind};
-ghost use Rattle.otel_embed.specs.Pipelines.{LinksToRemote, RefusesIn, SaysHeaders, StartsIn, Stays, asked_start, taken};
+ghost use Rattle.otel_embed.specs.Pipelines.{LinksToRemote, SaysHeaders, Stays, taken};
+ghost use Rattle.otel_embed.specs.Starts.{RefusesIn, StartsIn, asked_start};
 
 use crate::handle::Handle;
 use crate::status::{OTEL_CLOSED, status_of, status_of_result, write_number, write_text};

@@ -5,8 +5,10 @@ ghost use Rattle.otel_c.specs.Handles.{Answers, Holds, ShowsIdentity};
 ghost use Rattle.otel_embed.specs.Keys.{span_at};
 ghost use Rattle.opentelemetry.specs.declared.trace.span_kind.SpanKind.{SpanKind as TheKinds};
 ghost use Rattle.otel_embed.specs.HostValues.{IsKind};
-ghost use Rattle.otel_embed.specs.Pipelines.{Abandons, EndNeedsNone, EndsSpan, Identifies, IsContextUnder, RefusesIn};
-ghost use Rattle.otel_embed.specs.Pipelines.{StartsIn, Stays, asked_start};
+ghost use Rattle.otel_embed.specs.Pipelines.{Abandons, EndNeedsNone, EndsSpan, Identifies};
+ghost use Rattle.otel_embed.specs.Starts.{IsContextUnder, RefusesIn};
+ghost use Rattle.otel_embed.specs.Pipelines.{Stays};
+ghost use Rattle.otel_embed.specs.Starts.{StartsIn, asked_start};
 ghost use Rattle.otel_embed.specs.declared.span_calls.SpanIdentity.{SpanIdentity as TheIdentity};
 
 use crate::handle::Handle;

@@ -1,4 +1,4 @@
-use Rattle.std.proofs.Common.{rules, ◌∙◌, Some, ap, sym}
+use Rattle.std.proofs.Common.{◌∙◌, Some, ap, sym}
 use Rattle.otel_c.proofs.Turning.{flowed, flows_by}
 use Rattle.otel_c.proofs.flow.otel_run.Goals as goal
 
