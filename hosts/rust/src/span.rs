@@ -202,10 +202,7 @@ impl Span {
     /// ```
     pub fn add_event<'a>(&self, name: &str, attributes: impl IntoIterator<Item = Attribute<'a>>) -> &Self {
         let (moment, attributes) = (Moment::now(), attributes.into_iter().collect::<Vec<_>>());
-        self.attempt(|handle, key| {
-            handle.gather(&attributes)?;
-            handle.add_event(key, name, moment)
-        });
+        self.attempt(|handle, key| handle.add_event(key, name, moment, &attributes));
         self
     }
 
@@ -231,14 +228,10 @@ impl Span {
         let linked = linked.into();
         let attributes: Vec<_> = attributes.into_iter().collect();
         self.attempt(|handle, key| match linked {
-            SpanRef::Remote(headers) => {
-                handle.gather(&attributes)?;
-                handle.add_remote_link(key, headers)
-            }
+            SpanRef::Remote(headers) => handle.add_remote_link(key, headers, &attributes),
             SpanRef::Span(span) => {
                 let linked = span.key_within(&self.shared)?.ok_or(Error::NoSuchSpan)?;
-                handle.gather(&attributes)?;
-                handle.add_link(key, linked)
+                handle.add_link(key, linked, &attributes)
             }
         });
         self

@@ -175,9 +175,9 @@ impl<'a> SpanBuilder<'a> {
     fn start_below(&self, parent: ParentOf<'_>, moment: Moment) -> Result<Span, Error> {
         let shared = &self.tracer.shared;
         let name = &*self.name;
-        let start = SpanStart { tracer: self.tracer.key, parent, kind: self.kind.number(), name, moment };
+        let (tracer, kind, attributes) = (self.tracer.key, self.kind.number(), &*self.attributes);
+        let start = SpanStart { tracer, parent, kind, name, moment, attributes };
         let started = shared.call(|handle| {
-            handle.gather(&self.attributes)?;
             let key = handle.start(&start)?;
             Ok(passed_on(handle, key, &start.parent)?.map_or(Standing::Open(key), Standing::Passing))
         })?;

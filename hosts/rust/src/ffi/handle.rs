@@ -7,15 +7,13 @@
 
 use super::declarations::{
     otel_close, otel_count, otel_drain, otel_flush, otel_ignored_settings, otel_open, otel_run, otel_shutdown,
-    otel_tracer, otel_with_bool, otel_with_bools, otel_with_float, otel_with_floats, otel_with_integer,
-    otel_with_integers, otel_with_text, otel_with_texts,
+    otel_tracer,
 };
 use super::{check, Counts, Held, RawHandle, TracerKey};
-use crate::attributes::{Attribute, Value};
 use crate::moment::Moment;
 use crate::tracer::Library;
 use crate::Error;
-use std::borrow::Cow;
+use std::mem::size_of;
 use std::ptr::null_mut;
 
 /// A pipeline. It is closed when it is dropped, and cannot be copied.
@@ -63,52 +61,6 @@ impl Handle {
         Ok(tracer)
     }
 
-    /// Gathers attributes for the next call that takes them: all, or none where it answers an error.
-    pub fn gather(&mut self, attributes: &[Attribute<'_>]) -> Result<(), Error> {
-        let gathered = attributes.iter().try_for_each(|it| self.gather_one(it));
-        if gathered.is_err() {
-            // Takes what was gathered before the error; it answers that no span is there.
-            let _no_span = self.set_attributes(None);
-        }
-        gathered
-    }
-
-    fn gather_one(&mut self, attribute: &Attribute<'_>) -> Result<(), Error> {
-        let (key, length) = (attribute.key.as_ptr(), attribute.key.len());
-        let raw = &mut self.raw;
-        // SAFETY: as above; a truth value in memory is a byte, 0 or 1.
-        let status = unsafe {
-            match &attribute.value {
-                Value::Text(it) => otel_with_text(raw, key, length, it.as_ptr(), it.len()),
-                Value::Integer(it) => otel_with_integer(raw, key, length, *it),
-                Value::Float(it) => otel_with_float(raw, key, length, *it),
-                Value::Bool(it) => otel_with_bool(raw, key, length, u32::from(*it)),
-                Value::Integers(it) => otel_with_integers(raw, key, length, it.as_ptr(), it.len()),
-                Value::Floats(it) => otel_with_floats(raw, key, length, it.as_ptr(), it.len()),
-                Value::Bools(it) => otel_with_bools(raw, key, length, it.as_ptr().cast(), it.len()),
-                Value::Texts(it) => return self.gather_texts(&attribute.key, it),
-            }
-        };
-        check(status)
-    }
-
-    fn gather_texts(&mut self, key: &str, texts: &[Cow<'_, str>]) -> Result<(), Error> {
-        let values = texts.concat();
-        let lengths: Vec<u64> = texts.iter().map(|it| it.len() as u64).collect();
-        // SAFETY: as above; there is a length for each text.
-        check(unsafe {
-            otel_with_texts(
-                &mut self.raw,
-                key.as_ptr(),
-                key.len(),
-                values.as_ptr(),
-                values.len(),
-                lengths.as_ptr(),
-                lengths.len(),
-            )
-        })
-    }
-
     pub fn flush(&mut self) -> Result<(), Error> {
         // SAFETY: as above.
         check(unsafe { otel_flush(&mut self.raw) })
@@ -128,7 +80,7 @@ impl Handle {
     pub fn count(&mut self) -> Result<Counts, Error> {
         let mut counts = Counts::default();
         // SAFETY: as above.
-        check(unsafe { otel_count(&mut self.raw, &mut counts) })?;
+        check(unsafe { otel_count(&mut self.raw, &mut counts, size_of::<Counts>()) })?;
         Ok(counts)
     }
 
@@ -178,9 +130,10 @@ pub(super) fn filled(first_room: usize, mut call: impl FnMut(&mut [u8], &mut usi
     }
 }
 
+/// Makes a buffer this long at least.
 fn grow(buffer: &mut Vec<u8>, length: usize) -> Result<(), Error> {
-    let more = length - buffer.len();
-    buffer.try_reserve_exact(more).map_err(|_| Error::OutOfMemory)?;
-    buffer.resize(length, 0);
+    let more = length.saturating_sub(buffer.len());
+    buffer.try_reserve(more).map_err(|_| Error::OutOfMemory)?;
+    buffer.resize(buffer.len() + more, 0);
     Ok(())
 }

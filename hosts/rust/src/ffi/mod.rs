@@ -2,6 +2,7 @@
 //! The C interface, `otel.h`: its types, and its calls in `declarations`. All unsafe code of the package is in this
 //! module; `Handle` is its safe face.
 
+mod attributes;
 mod declarations;
 mod forks;
 mod handle;
@@ -27,6 +28,25 @@ struct RawHandle {
 #[repr(C)]
 struct Held {
     at: *mut c_void,
+}
+
+/// `otel_attribute`. What its addresses lead to is borrowed by whoever makes it.
+#[repr(C)]
+struct RawAttribute {
+    key: *const u8,
+    key_length: usize,
+    kind: u32,
+    truth: u32,
+    integer: i64,
+    number: f64,
+    bytes: *const u8,
+    bytes_length: usize,
+    lengths: *const u64,
+    lengths_count: usize,
+    integers: *const i64,
+    integers_count: usize,
+    numbers: *const f64,
+    numbers_count: usize,
 }
 
 /// Names a span of a pipeline for ever.
@@ -68,8 +88,14 @@ pub struct Counts {
     pub dropped_spans: u64,
     /// Ended, and refused when memory ran out.
     pub refused_spans: u64,
-    /// Exported, and not kept when memory ran out.
+    /// Exported, and not kept: memory ran out, or as many spans were kept as `OTEL_C_MAX_UNDRAINED_SPANS` allows.
     pub lost_batches: u64,
+    /// The spans of these batches.
+    pub lost_spans: u64,
+    /// Exported and kept, and not drained yet.
+    pub undrained_spans: u64,
+    /// How many bytes the lines take that were made and not drained yet.
+    pub undrained_bytes: u64,
 }
 
 /// What a status means.

@@ -1,10 +1,11 @@
 // SPDX-License-Identifier: Apache-2.0
 //! The calls about one span. What makes them safe is said in `handle`.
 
+use super::attributes::RawAttributes;
 use super::declarations::{
-    otel_abandon, otel_add_event, otel_add_link, otel_add_remote_link, otel_end, otel_identity, otel_inject,
-    otel_record_exception, otel_set_attributes, otel_set_bool, otel_set_float, otel_set_integer, otel_set_status,
-    otel_set_text, otel_start, otel_start_remote, otel_update_name,
+    otel_abandon, otel_add_event_with, otel_add_link_with, otel_add_remote_link_with, otel_end, otel_identity,
+    otel_inject, otel_record_exception, otel_set_attributes_with, otel_set_bool, otel_set_float, otel_set_integer,
+    otel_set_status, otel_set_text, otel_start_remote_with, otel_start_with, otel_update_name,
 };
 use super::handle::{filled, Handle};
 use super::{check, SpanIdentity, SpanKey, TracerKey};
@@ -25,13 +26,14 @@ pub enum ParentOf<'a> {
     Remote(&'a Extracted),
 }
 
-/// What a span begins with, but for its attributes, which are gathered.
+/// What a span begins with.
 pub struct SpanStart<'a> {
     pub tracer: TracerKey,
     pub parent: ParentOf<'a>,
     pub kind: u32,
     pub name: &'a str,
     pub moment: Moment,
+    pub attributes: &'a [Attribute<'a>],
 }
 
 impl Handle {
@@ -44,10 +46,11 @@ impl Handle {
     }
 
     fn start_here(&mut self, start: &SpanStart<'_>, parent: Option<SpanKey>) -> Result<SpanKey, Error> {
+        let attributes = RawAttributes::of(start.attributes);
         let mut key = None;
         // SAFETY: as in `handle`.
         check(unsafe {
-            otel_start(
+            otel_start_with(
                 &mut self.raw,
                 start.tracer,
                 parent,
@@ -55,6 +58,8 @@ impl Handle {
                 start.name.as_ptr(),
                 start.name.len(),
                 start.moment.nanoseconds(),
+                attributes.address(),
+                attributes.count(),
                 &mut key,
             )
         })?;
@@ -63,10 +68,11 @@ impl Handle {
 
     fn start_remote(&mut self, start: &SpanStart<'_>, headers: &Extracted) -> Result<SpanKey, Error> {
         let (traceparent, tracestate, baggage) = (headers.traceparent(), headers.tracestate(), headers.baggage());
+        let attributes = RawAttributes::of(start.attributes);
         let mut key = None;
         // SAFETY: as in `handle`.
         check(unsafe {
-            otel_start_remote(
+            otel_start_remote_with(
                 &mut self.raw,
                 start.tracer,
                 traceparent.as_ptr(),
@@ -79,6 +85,8 @@ impl Handle {
                 start.name.as_ptr(),
                 start.name.len(),
                 start.moment.nanoseconds(),
+                attributes.address(),
+                attributes.count(),
                 &mut key,
             )
         })?;
@@ -103,23 +111,34 @@ impl Handle {
                 Value::Float(it) => otel_set_float(raw, span, key, length, *it),
                 Value::Bool(it) => otel_set_bool(raw, span, key, length, u32::from(*it)),
                 Value::Texts(_) | Value::Integers(_) | Value::Floats(_) | Value::Bools(_) => {
-                    self.gather(slice::from_ref(attribute))?;
-                    return self.set_attributes(Some(span));
+                    let attributes = RawAttributes::of(slice::from_ref(attribute));
+                    otel_set_attributes_with(raw, span, attributes.address(), attributes.count())
                 }
             }
         };
         check(status)
     }
 
-    /// Sets the attributes that were gathered; without a span they are forgotten.
-    pub fn set_attributes(&mut self, span: Option<SpanKey>) -> Result<(), Error> {
+    pub fn add_event(
+        &mut self,
+        span: SpanKey,
+        name: &str,
+        moment: Moment,
+        attributes: &[Attribute<'_>],
+    ) -> Result<(), Error> {
+        let attributes = RawAttributes::of(attributes);
         // SAFETY: as in `handle`.
-        check(unsafe { otel_set_attributes(&mut self.raw, span) })
-    }
-
-    pub fn add_event(&mut self, span: SpanKey, name: &str, moment: Moment) -> Result<(), Error> {
-        // SAFETY: as in `handle`.
-        check(unsafe { otel_add_event(&mut self.raw, span, name.as_ptr(), name.len(), moment.nanoseconds()) })
+        check(unsafe {
+            otel_add_event_with(
+                &mut self.raw,
+                span,
+                name.as_ptr(),
+                name.len(),
+                moment.nanoseconds(),
+                attributes.address(),
+                attributes.count(),
+            )
+        })
     }
 
     /// An event `exception` with a message alone.
@@ -141,22 +160,31 @@ impl Handle {
         })
     }
 
-    pub fn add_link(&mut self, span: SpanKey, linked: SpanKey) -> Result<(), Error> {
+    pub fn add_link(&mut self, span: SpanKey, linked: SpanKey, attributes: &[Attribute<'_>]) -> Result<(), Error> {
+        let attributes = RawAttributes::of(attributes);
         // SAFETY: as in `handle`.
-        check(unsafe { otel_add_link(&mut self.raw, span, linked) })
+        check(unsafe { otel_add_link_with(&mut self.raw, span, linked, attributes.address(), attributes.count()) })
     }
 
-    pub fn add_remote_link(&mut self, span: SpanKey, headers: &Extracted) -> Result<(), Error> {
+    pub fn add_remote_link(
+        &mut self,
+        span: SpanKey,
+        headers: &Extracted,
+        attributes: &[Attribute<'_>],
+    ) -> Result<(), Error> {
         let (traceparent, tracestate) = (headers.traceparent(), headers.tracestate());
+        let attributes = RawAttributes::of(attributes);
         // SAFETY: as in `handle`.
         check(unsafe {
-            otel_add_remote_link(
+            otel_add_remote_link_with(
                 &mut self.raw,
                 span,
                 traceparent.as_ptr(),
                 traceparent.len(),
                 tracestate.as_ptr(),
                 tracestate.len(),
+                attributes.address(),
+                attributes.count(),
             )
         })
     }

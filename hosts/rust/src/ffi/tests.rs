@@ -7,7 +7,17 @@ const HEADER: &str = include_str!("../../../c/otel.h");
 const HERE: &str = include_str!("mod.rs");
 
 /// Types of C and of Rust that are the same.
-const TYPES: [(&str, &str); 2] = [("uint32_t", "u32"), ("uint64_t", "u64")];
+const TYPES: [(&str, &str); 9] = [
+    ("uint32_t", "u32"),
+    ("uint64_t", "u64"),
+    ("int64_t", "i64"),
+    ("double", "f64"),
+    ("size_t", "usize"),
+    ("const uint8_t *", "*const u8"),
+    ("const uint64_t *", "*const u64"),
+    ("const int64_t *", "*const i64"),
+    ("const double *", "*const f64"),
+];
 
 /// A text with one space for each run of white space, and without the comments of C.
 fn plain(text: &str) -> String {
@@ -25,7 +35,8 @@ fn between<'t>(text: &'t str, begin: &str, end: &str) -> &'t str {
 /// A field of C, as `uint64_t name`, as a name and a type.
 fn of_c(text: &str) -> (String, String) {
     let (of_type, name) = text.trim().rsplit_once(' ').unwrap();
-    (name.to_owned(), of_type.to_owned())
+    let (stars, name) = name.split_at(name.len() - name.trim_start_matches('*').len());
+    (name.to_owned(), format!("{of_type} {stars}").trim_end().to_owned())
 }
 
 /// A field here, as `pub name: u64`, as a name and a type of C.
@@ -44,10 +55,12 @@ fn list(text: &str, separator: char, read: fn(&str) -> (String, String)) -> Name
 #[test]
 fn the_structs_are_those_of_the_header() {
     let header = plain(HEADER);
-    for (there, here) in [("otel_span_identity", "SpanIdentity"), ("otel_numbers", "Counts")] {
+    let structs =
+        [("otel_attribute", "RawAttribute"), ("otel_span_identity", "SpanIdentity"), ("otel_numbers", "Counts")];
+    for (there, here) in structs {
         let (before, _) = header.split_once(&format!("}} {there};")).unwrap();
         let fields = list(before.rsplit_once('{').unwrap().1, ';', of_c);
-        let declared = between(HERE, &format!("pub struct {here} {{"), "\n}");
+        let declared = between(HERE, &format!("struct {here} {{"), "\n}");
         let code: Vec<_> = declared.lines().filter(|it| !it.contains("///")).collect();
         assert_eq!(fields, list(&code.join(" "), ',', of_rust));
     }
