@@ -14,8 +14,8 @@ const PAUSE: Duration = Duration::from_secs(60);
 pub(crate) enum About {
     /// Spans that the pipeline dropped.
     Drops,
-    /// Batches that it could not export.
-    Batches,
+    /// Spans that it exported and did not keep.
+    Undrained,
     /// What was lost when it was closed.
     End,
     /// Lines that could not be sent and are tried again.

@@ -6,7 +6,7 @@ use crate::ffi::{Counts, Handle, Process, TracerKey};
 use crate::lines::spans_in;
 use crate::notices::About;
 use crate::settings::Builder;
-use crate::shared::{Follower, Shared};
+use crate::shared::{Drained, Follower, Shared};
 use crate::tracer::{Library, Tracer};
 use crate::Error;
 use std::fmt;
@@ -22,8 +22,8 @@ use std::time::Instant;
 /// A process made by a fork has to open a pipeline of its own: in that of its parent calls answer
 /// [`Error::OtherProcess`], or count it, spans record nothing, and nothing is exported twice.
 ///
-/// Spans that are lost have a notice, a line of text: the first that were dropped, the first batch that was not
-/// exported, and what was lost at the end; of each there is at most one a minute. See [`Pipeline::on_notice`].
+/// Spans that are lost have a notice, a line of text: the first that were dropped, the first that were exported and not
+/// kept, and what was lost at the end; of each there is at most one a minute. See [`Pipeline::on_notice`].
 ///
 /// ```
 /// use otel_proved::{Kind, Pipeline};
@@ -110,9 +110,17 @@ impl Pipeline {
         self.shared().run(now)
     }
 
-    /// Hands out what was exported, and forgets it: whole lines, each with a line feed after it.
+    /// Hands out what was exported, and forgets it: whole lines, each with a line feed after it. Where memory runs out
+    /// after some lines those are handed out, and the others by a later call.
     pub fn drain(&self) -> Result<Vec<u8>, Error> {
-        self.shared().call(Handle::drain)
+        match self.drain_all() {
+            (lines, Err(error)) if lines.is_empty() => Err(error),
+            (lines, _) => Ok(lines),
+        }
+    }
+
+    pub(crate) fn drain_all(&self) -> Drained {
+        self.shared().drain()
     }
 
     /// How many spans are where.

@@ -48,12 +48,17 @@ pub(crate) struct Failures {
     pub last: Option<Error>,
 }
 
-/// What a pipeline lost.
+/// How many spans a pipeline lost.
 #[derive(Clone, Copy, Default)]
 struct Lost {
-    spans: u64,
-    batches: u64,
+    /// Before their export.
+    dropped: u64,
+    /// After it.
+    undrained: u64,
 }
+
+/// What was drained: lines, and an error where some are left.
+pub(crate) type Drained = (Vec<u8>, Result<(), Error>);
 
 impl Shared {
     pub fn new(handle: Handle, process: Process) -> Self {
@@ -75,7 +80,7 @@ impl Shared {
     }
 
     fn is_foreign(&self) -> bool {
-        self.process.is_another()
+        self.process().is_another()
     }
 
     /// Carries out calls that no other thread comes between.
@@ -134,15 +139,23 @@ impl Shared {
     }
 
     fn say(&self, lost: Lost) {
-        let Lost { spans, batches } = lost;
-        if spans > 0 {
+        let Lost { dropped, undrained } = lost;
+        if dropped > 0 {
             let why = "the queue was full or memory ran out";
-            self.tell(About::Drops, format_args!("spans that are lost, since {why}: {spans}"));
+            self.tell(About::Drops, format_args!("spans that are lost, since {why}: {dropped}"));
         }
-        if batches > 0 {
-            let what = "batches of spans that were not exported, and are lost";
-            self.tell(About::Batches, format_args!("{what}: {batches}"));
+        if undrained > 0 {
+            let why = "too many were not drained or memory ran out";
+            self.tell(
+                About::Undrained,
+                format_args!("spans that are lost after their export, since {why}: {undrained}"),
+            );
         }
+    }
+
+    /// Hands out what was exported.
+    pub fn drain(&self) -> Drained {
+        self.call(|handle| Ok(handle.drain())).unwrap_or_else(|error| (Vec::new(), Err(error)))
     }
 
     /// Closes the pipeline, and answers its last lines, and how many spans were open and are lost.
@@ -154,10 +167,7 @@ impl Shared {
         let handle = &mut inner.handle;
         let exported = if handle.is_shut_down() { Ok(()) } else { handle.shutdown() };
         let open_spans = handle.count().map_or(0, |it| it.open_spans);
-        let (lines, drained) = match handle.drain() {
-            Ok(lines) => (lines, Ok(())),
-            Err(error) => (Vec::new(), Err(error)),
-        };
+        let (lines, drained) = handle.drain();
         let lost = inner.newly_lost();
         let closed = inner.handle.close();
         drop(inner);
@@ -222,11 +232,11 @@ impl Inner {
         let Ok(counts) = self.handle.count() else {
             return Lost::default();
         };
-        let Counts { dropped_spans, refused_spans, lost_batches, .. } = counts;
-        let lost = Lost { spans: dropped_spans.saturating_add(refused_spans), batches: lost_batches };
+        let Counts { dropped_spans, refused_spans, lost_spans, .. } = counts;
+        let lost = Lost { dropped: dropped_spans.saturating_add(refused_spans), undrained: lost_spans };
         let seen = std::mem::replace(&mut self.seen, lost);
         let if_more = |now, before| if now > before { now } else { 0 };
-        Lost { spans: if_more(lost.spans, seen.spans), batches: if_more(lost.batches, seen.batches) }
+        Lost { dropped: if_more(lost.dropped, seen.dropped), undrained: if_more(lost.undrained, seen.undrained) }
     }
 }
 

@@ -109,6 +109,24 @@ fn a_pipeline_says_what_it_loses() {
 }
 
 #[test]
+fn what_nobody_drains_has_a_bound() {
+    let settings = Pipeline::builder().setting("OTEL_SPAN_PROCESSOR", "simple");
+    let (pipeline, heard) = heard(settings.setting("OTEL_C_MAX_UNDRAINED_SPANS", "3"));
+    assert_eq!(pipeline.ignored_settings(), [""; 0]);
+    end_spans(&pipeline, 5);
+    let counts = pipeline.counts().unwrap();
+    assert_eq!((counts.undrained_spans, counts.lost_batches, counts.lost_spans), (3, 2, 2));
+    let _not_all = pipeline.flush();
+    let said = "spans that are lost after their export, since too many were not drained or memory ran out: 2";
+    assert_eq!(*heard.lock().unwrap(), [said]);
+    let lines = String::from_utf8(pipeline.drain().unwrap()).unwrap();
+    let counts = pipeline.counts().unwrap();
+    assert_eq!((lines.matches(SPAN).count(), counts.undrained_spans, counts.undrained_bytes), (3, 0, 0));
+    end_spans(&pipeline, 1);
+    assert!(!pipeline.drain().unwrap().is_empty());
+}
+
+#[test]
 fn a_pipeline_that_loses_nothing_says_nothing() {
     let (pipeline, heard) = heard(Pipeline::builder());
     end_spans(&pipeline, 5);

@@ -102,6 +102,22 @@ fn floats_are_values_too() {
 }
 
 #[test]
+fn long_lines_are_drained_whole_and_in_order() {
+    let pipeline = Pipeline::builder().setting("OTEL_SPAN_PROCESSOR", "simple").open().unwrap();
+    let (tracer, long) = (pipeline.tracer("shop"), "x".repeat(200_000));
+    for number in 0..9_i64 {
+        let text = if number % 3 == 1 { &*long } else { "short" };
+        tracer.span("GET").attribute("number", number).attribute("text", text).start().end();
+    }
+    let lines = String::from_utf8(pipeline.drain().unwrap()).unwrap();
+    assert_eq!((lines.lines().count(), lines.ends_with('\n'), times(&lines, &long)), (9, true, 3));
+    for (number, line) in lines.lines().enumerate() {
+        has(line, &format!(r#"{{"key":"number","value":{{"intValue":"{number}"}}}}"#));
+    }
+    assert_eq!(pipeline.drain(), Ok(Vec::new()));
+}
+
+#[test]
 fn events_and_links_are_written() {
     let pipeline = batch();
     let tracer = pipeline.tracer("shop");

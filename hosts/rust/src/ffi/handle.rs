@@ -6,7 +6,7 @@
 //! to a variable of its type.
 
 use super::declarations::{
-    otel_close, otel_count, otel_drain, otel_flush, otel_ignored_settings, otel_open, otel_run, otel_shutdown,
+    otel_close, otel_count, otel_drain_some, otel_flush, otel_ignored_settings, otel_open, otel_run, otel_shutdown,
     otel_tracer,
 };
 use super::{check, Counts, Held, RawHandle, TracerKey};
@@ -15,6 +15,9 @@ use crate::tracer::Library;
 use crate::Error;
 use std::mem::size_of;
 use std::ptr::null_mut;
+
+/// Room for lines, of which one is longer seldom.
+const ROOM_OF_LINES: usize = 1 << 16;
 
 /// A pipeline. It is closed when it is dropped, and cannot be copied.
 pub struct Handle {
@@ -71,10 +74,35 @@ impl Handle {
         check(unsafe { otel_run(&mut self.raw, moment.nanoseconds()) })
     }
 
-    /// The lines that were exported.
-    pub fn drain(&mut self) -> Result<Vec<u8>, Error> {
-        // SAFETY: as above; the buffer is as long as is said.
-        filled(0, |buffer, length| unsafe { otel_drain(&mut self.raw, buffer.as_mut_ptr(), buffer.len(), length) })
+    /// The lines that were exported, all but where an error says that some are left.
+    pub fn drain(&mut self) -> (Vec<u8>, Result<(), Error>) {
+        let mut lines = Vec::new();
+        loop {
+            let before = lines.len();
+            let drained = self.drain_onto(&mut lines);
+            lines.truncate(before + drained.as_ref().map_or(0, |length| *length));
+            match drained {
+                Ok(0) => return (lines, Ok(())),
+                Ok(_) => (),
+                Err(error) => return (lines, Err(error)),
+            }
+        }
+    }
+
+    /// Appends the oldest lines, and then any bytes; answers how long the lines are, 0 where none is left.
+    fn drain_onto(&mut self, lines: &mut Vec<u8>) -> Result<usize, Error> {
+        let (before, mut room) = (lines.len(), ROOM_OF_LINES);
+        loop {
+            grow(lines, before + room)?;
+            let (buffer, mut length) = (&mut lines[before..], 0);
+            // SAFETY: as above; the buffer is as long as is said.
+            let status = unsafe { otel_drain_some(&mut self.raw, buffer.as_mut_ptr(), buffer.len(), &mut length) };
+            match check(status) {
+                Ok(()) => return Ok(length),
+                Err(Error::BufferTooSmall) if length > room => room = length,
+                Err(error) => return Err(error),
+            }
+        }
     }
 
     pub fn count(&mut self) -> Result<Counts, Error> {

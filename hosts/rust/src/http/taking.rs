@@ -35,14 +35,11 @@ impl Taking {
     fn take(&self, is_asked: bool, flushes: u64) -> bool {
         let pipeline = &self.pipeline;
         self.note(if is_asked { pipeline.flush() } else { pipeline.run_due(Instant::now()) });
-        let lines = match pipeline.drain() {
-            Err(Error::Closed) => Vec::new(),
-            Err(error) => {
-                self.note(Err(error));
-                return false;
-            }
-            Ok(lines) => lines,
-        };
+        let (lines, drained) = pipeline.drain_all();
+        let is_all = matches!(drained, Ok(()) | Err(Error::Closed));
+        self.note(drained);
+        // The flush is not over where lines are left.
+        let flushes = if is_all { flushes } else { 0 };
         let each = lines.split_inclusive(|it| *it == b'\n').map(|it| it.strip_suffix(b"\n").unwrap_or(it));
         let lost = self.desk.put(each.map(Line::new).collect(), self.kept_spans, flushes);
         if lost > 0 {
@@ -51,7 +48,7 @@ impl Taking {
             let what = format_args!("more spans wait for {goal} than are kept, and the newest are lost: {lost}");
             pipeline.say(About::Full, what);
         }
-        true
+        is_all
     }
 
     /// Counts an error, but for those that the pipeline's own counts tell, or that say that it is closed.
