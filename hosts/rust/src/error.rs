@@ -38,6 +38,8 @@ pub enum Error {
     OtherProcess,
     /// The text of an error could not be made: its `Display` panicked, or answered an error.
     NoText,
+    /// The library that was linked is of another version than this package was made for.
+    OtherVersion { declared: [u32; 3], library: [u32; 3] },
 }
 
 impl fmt::Display for Error {
@@ -58,6 +60,10 @@ impl fmt::Display for Error {
             Self::OtherPipeline => "a span of another pipeline",
             Self::OtherProcess => "the pipeline of another process",
             Self::NoText => "the text of an error could not be made",
+            Self::OtherVersion { declared: [major, minor, _], library: [first, second, third] } => {
+                let is = format_args!("libotel_c is of version {first}.{second}.{third}");
+                return write!(out, "{is}, and this package is for {major}.{minor}");
+            }
         })
     }
 }

@@ -9,6 +9,7 @@ use super::declarations::{
     otel_close, otel_count, otel_drain_some, otel_flush, otel_ignored_settings, otel_open, otel_run, otel_shutdown,
     otel_tracer,
 };
+use super::version::hold_version;
 use super::{check, Counts, Held, RawHandle, TracerKey};
 use crate::moment::Moment;
 use crate::tracer::Library;
@@ -30,6 +31,7 @@ unsafe impl Send for Handle {}
 
 impl Handle {
     pub fn open(settings: &str, seed: u64) -> Result<Self, Error> {
+        hold_version()?;
         let raw = RawHandle { is_open: false, held: Held { at: null_mut() } };
         let mut handle = Self { raw, is_shut_down: false };
         // SAFETY: as above.

@@ -9,6 +9,7 @@ mod handle;
 mod span_calls;
 #[cfg(test)]
 mod tests;
+mod version;
 
 pub use forks::Process;
 pub use handle::Handle;
