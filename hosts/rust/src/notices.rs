@@ -4,7 +4,7 @@
 use std::fmt;
 use std::io::{self, Write};
 use std::panic::{self, AssertUnwindSafe};
-use std::sync::{Arc, Mutex, PoisonError};
+use std::sync::{Arc, Mutex, PoisonError, TryLockError};
 use std::time::{Duration, Instant};
 
 const PAUSE: Duration = Duration::from_secs(60);
@@ -45,6 +45,11 @@ struct State {
 impl Notices {
     pub fn set(&self, callback: Callback) {
         self.state.lock().unwrap_or_else(PoisonError::into_inner).callback = Some(callback);
+    }
+
+    /// Whether no thread is in the middle of a call.
+    pub fn are_free(&self) -> bool {
+        !matches!(self.state.try_lock(), Err(TryLockError::WouldBlock))
     }
 
     pub fn say(&self, about: About, what: fmt::Arguments<'_>) {

@@ -5,7 +5,7 @@ use crate::error::CloseError;
 use crate::ffi::{Counts, Handle, Process, TracerKey};
 use crate::lines::spans_in;
 use crate::notices::About;
-use crate::settings::Builder;
+use crate::settings::{random_seed, Builder};
 use crate::shared::{Drained, Follower, Shared};
 use crate::tracer::{Library, Tracer};
 use crate::Error;
@@ -19,8 +19,8 @@ use std::time::Instant;
 /// When the last clone is dropped the pipeline is closed, and lines that nobody drained are lost: [`Pipeline::close`]
 /// hands out the last lines. Spans that are open then record nothing more.
 ///
-/// A process made by a fork has to open a pipeline of its own: in that of its parent calls answer
-/// [`Error::OtherProcess`], or count it, spans record nothing, and nothing is exported twice.
+/// In a process made by a fork it is the parent's: calls answer [`Error::OtherProcess`], or count it, spans record
+/// nothing, and nothing is exported twice. The child calls [`Pipeline::after_fork`], or opens a pipeline of its own.
 ///
 /// Spans that are lost have a notice, a line of text: the first that were dropped, the first that were exported and not
 /// kept, and what was lost at the end; of each there is at most one a minute. See [`Pipeline::on_notice`].
@@ -155,6 +155,16 @@ impl Pipeline {
     /// ```
     pub fn on_notice(&self, callback: impl Fn(&str) + Send + Sync + 'static) {
         self.shared().set_notice(Arc::new(callback));
+    }
+
+    /// For the child of a fork: has the pipeline go on in it, without the spans and lines of the parent, with other ids
+    /// and with counts that begin anew. Spans that were open are the parent's: calls of them count as failures. A sender
+    /// is the parent's too, so start another one. In another process than such a child it does nothing.
+    ///
+    /// [`Error::OtherProcess`] where another thread was in the middle of a call at the fork. Then, and where the parent
+    /// had closed it, the child opens a pipeline of its own.
+    pub fn after_fork(&self) -> Result<(), Error> {
+        self.shared().go_on_after_fork(random_seed())
     }
 
     /// Whose the pipeline is.

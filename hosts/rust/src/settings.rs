@@ -117,7 +117,7 @@ impl Builder {
 }
 
 /// A number from the keys that the system gives for hashing, the clock and the id of the process.
-fn random_seed() -> u64 {
+pub(crate) fn random_seed() -> u64 {
     let mut hasher = RandomState::new().build_hasher();
     hasher.write_u32(process::id());
     let since = SystemTime::now().duration_since(SystemTime::UNIX_EPOCH);

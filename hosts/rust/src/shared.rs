@@ -2,13 +2,13 @@
 //! What pipelines, tracers and spans of one pipeline share: its handle after a lock, a count of calls that failed, and
 //! who is told of what.
 
-use crate::ffi::{Counts, Handle, Process};
+use crate::ffi::{Counts, Handle, Owner, Process};
 use crate::moment::Moment;
 use crate::notices::{About, Callback, Notices};
 use crate::Error;
 use std::fmt;
 use std::sync::atomic::{AtomicU64, Ordering};
-use std::sync::{Mutex, MutexGuard, PoisonError, Weak};
+use std::sync::{Mutex, MutexGuard, PoisonError, TryLockError, Weak};
 use std::time::Instant;
 
 /// After so many ends whoever takes the lines is woken.
@@ -23,7 +23,7 @@ pub(crate) trait Follower: Send + Sync {
 pub(crate) struct Shared {
     inner: Mutex<Inner>,
     /// Whose it is. Where this is another process all else stays as it is: locks may have been held at the fork.
-    process: Process,
+    owner: Owner,
     /// How many calls failed since it is that of another process.
     foreign_calls: AtomicU64,
     followers: Mutex<Vec<Weak<dyn Follower>>>,
@@ -64,7 +64,7 @@ impl Shared {
     pub fn new(handle: Handle, process: Process) -> Self {
         Self {
             inner: Mutex::new(Inner { handle, failures: Failures::default(), seen: Lost::default() }),
-            process,
+            owner: Owner::new(process),
             foreign_calls: AtomicU64::new(0),
             followers: Mutex::default(),
             ends: AtomicU64::new(0),
@@ -176,7 +176,25 @@ impl Shared {
     }
 
     pub fn process(&self) -> Process {
-        self.process
+        self.owner.process()
+    }
+
+    /// Has the pipeline go on in a process that was made by a fork, without what the parent has. An error where another
+    /// thread was in the middle of a call at the fork: what it held is held for ever, and may be half changed.
+    pub fn go_on_after_fork(&self, seed: u64) -> Result<(), Error> {
+        if !self.is_foreign() {
+            return Ok(());
+        }
+        let (mut inner, mut followers) = (free(&self.inner)?, free(&self.followers)?);
+        if !self.notices.are_free() {
+            return Err(Error::OtherProcess);
+        }
+        inner.handle.go_on_after_fork(seed)?;
+        (inner.failures, inner.seen) = (Failures::default(), Lost::default());
+        followers.clear();
+        self.returned_spans.store(0, Ordering::Relaxed);
+        self.owner.become_this();
+        Ok(())
     }
 
     pub fn set_notice(&self, callback: Callback) {
@@ -237,6 +255,15 @@ impl Inner {
         let seen = std::mem::replace(&mut self.seen, lost);
         let if_more = |now, before| if now > before { now } else { 0 };
         Lost { dropped: if_more(lost.dropped, seen.dropped), undrained: if_more(lost.undrained, seen.undrained) }
+    }
+}
+
+/// What a mutex has, where nobody has it.
+fn free<T>(mutex: &Mutex<T>) -> Result<MutexGuard<'_, T>, Error> {
+    match mutex.try_lock() {
+        Ok(guard) => Ok(guard),
+        Err(TryLockError::Poisoned(guard)) => Ok(guard.into_inner()),
+        Err(TryLockError::WouldBlock) => Err(Error::OtherProcess),
     }
 }
 

@@ -1,8 +1,9 @@
 // SPDX-License-Identifier: Apache-2.0
-//! What a fork copies is the parent's: the child exports none of it, draws no id of it, and hangs nowhere.
+//! What a fork copies is the parent's: the child exports none of it, draws no id of it, and hangs nowhere, also where it
+//! goes on with the pipeline.
 
 use otel_proved::http::{Endpoint, HttpSender, Limits};
-use otel_proved::{Error, Pipeline, Tracer};
+use otel_proved::{Error, Pipeline, TraceId, Tracer};
 use std::ffi::c_int;
 use std::panic::{self, AssertUnwindSafe};
 use std::ptr::null_mut;
@@ -11,6 +12,7 @@ use std::thread;
 use std::time::{Duration, Instant};
 
 const LONG: Duration = Duration::from_secs(20);
+const SPAN: &str = "\"startTimeUnixNano\":";
 const WITHOUT_WAITING: c_int = 1;
 const KILL: c_int = 9;
 
@@ -52,6 +54,19 @@ fn opened() -> (Pipeline, Tracer) {
     (pipeline, tracer)
 }
 
+fn seeded() -> (Pipeline, Tracer) {
+    let pipeline = Pipeline::builder().setting("OTEL_SPAN_PROCESSOR", "batch").seed(7).open().unwrap();
+    let tracer = pipeline.tracer("shop");
+    (pipeline, tracer)
+}
+
+/// What a pipeline of the same seed draws after three spans.
+fn fourth_trace_id() -> TraceId {
+    let (_pipeline, tracer) = seeded();
+    let ids: Vec<_> = (0..4).map(|_| tracer.span("same").start().context().trace_id).collect();
+    ids[3]
+}
+
 #[test]
 fn a_child_leaves_the_pipeline_of_its_parent() {
     let (pipeline, tracer) = opened();
@@ -79,6 +94,60 @@ fn a_child_leaves_the_pipeline_of_its_parent() {
 }
 
 #[test]
+fn a_child_goes_on_with_other_ids() {
+    let (pipeline, tracer) = seeded();
+    assert_eq!(pipeline.after_fork(), Ok(()));
+    tracer.span("exported").start().end();
+    pipeline.flush().unwrap();
+    tracer.span("waits").start().end();
+    let open = tracer.span("open").start();
+    let (of_child, next) = (pipeline.clone(), fourth_trace_id());
+    assert!(holds_in_child(|| {
+        assert_eq!(of_child.drain(), Err(Error::OtherProcess));
+        assert_eq!((of_child.after_fork(), of_child.after_fork()), (Ok(()), Ok(())));
+        assert_eq!((of_child.failed_calls(), of_child.counts().unwrap().open_spans), (0, 0));
+        open.set_attribute("size", 3);
+        assert_eq!(of_child.last_failure(), Some(Error::NoSuchSpan));
+        let span = tracer.span("of the child").attribute("size", 4).start();
+        assert!(span.is_recording() && span.context().trace_id != next);
+        span.end();
+        let lines = String::from_utf8(of_child.close().unwrap()).unwrap();
+        lines.matches(SPAN).count() == 1 && lines.contains(r#""name":"of the child""#)
+    }));
+    drop(open);
+    let lines = String::from_utf8(pipeline.close().unwrap()).unwrap();
+    assert_eq!((lines.matches(SPAN).count(), lines.contains("of the child")), (3, false));
+}
+
+#[test]
+fn what_was_closed_or_shut_down_stays_so_in_a_child() {
+    let ((shut, tracer), (closed, _)) = (opened(), opened());
+    shut.shutdown().unwrap();
+    let other = closed.clone();
+    closed.close().unwrap();
+    assert!(holds_in_child(|| {
+        assert_eq!(other.after_fork(), Err(Error::Closed));
+        assert_eq!(shut.after_fork(), Ok(()));
+        tracer.span("late").start().end();
+        shut.drain() == Ok(Vec::new()) && shut.shutdown() == Err(Error::Failed)
+    }));
+}
+
+#[test]
+fn a_child_sends_by_a_sender_of_its_own() {
+    let (pipeline, tracer) = opened();
+    let endpoint = || Endpoint::parse("http://127.0.0.1:1").unwrap();
+    let limits = || Limits { closing_limit: Duration::from_millis(20), ..Limits::default() };
+    pipeline.on_notice(|_| ());
+    assert!(holds_in_child(|| {
+        pipeline.after_fork().unwrap();
+        let sender = HttpSender::start(&pipeline, endpoint(), limits()).unwrap();
+        tracer.span("of the child").start().end();
+        sender.close().lost_spans == 1
+    }));
+}
+
+#[test]
 fn a_child_hangs_nowhere() {
     let (pipeline, tracer) = opened();
     let endpoint = Endpoint::parse("http://127.0.0.1:1").unwrap();
@@ -101,6 +170,10 @@ fn a_child_hangs_nowhere() {
             let (of_child, other) = (&mut sender, pipeline.clone());
             assert!(holds_in_child(move || {
                 tracer.span("child").start().end();
+                // It goes on, or another thread was in the middle of a call.
+                let gone_on = other.after_fork();
+                tracer.span("child").start().end();
+                assert!(gone_on == Err(Error::OtherProcess) || gone_on.is_ok() && other.flush().is_ok());
                 let sender = of_child.take().unwrap();
                 !sender.flush(LONG) && sender.counts().sent_lines == 0 && {
                     drop((sender, other));

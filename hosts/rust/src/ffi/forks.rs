@@ -23,6 +23,25 @@ extern "C" fn count() {
 #[derive(Clone, Copy, Debug, PartialEq, Eq)]
 pub struct Process(u32);
 
+/// The process that a thing is of, which one that was made by a fork may become.
+#[derive(Debug)]
+pub struct Owner(AtomicU32);
+
+impl Owner {
+    pub fn new(process: Process) -> Self {
+        Self(AtomicU32::new(process.0))
+    }
+
+    pub fn process(&self) -> Process {
+        Process(self.0.load(Ordering::Acquire))
+    }
+
+    /// From now on it is of this process.
+    pub fn become_this(&self) {
+        self.0.store(Process::this().0, Ordering::Release);
+    }
+}
+
 impl Process {
     /// This process. An error where there is no memory to hear of forks.
     pub fn watched() -> Result<Self, Error> {

@@ -6,8 +6,8 @@
 //! to a variable of its type.
 
 use super::declarations::{
-    otel_close, otel_count, otel_drain_some, otel_flush, otel_ignored_settings, otel_open, otel_run, otel_shutdown,
-    otel_tracer,
+    otel_after_fork, otel_close, otel_count, otel_drain_some, otel_flush, otel_ignored_settings, otel_open, otel_run,
+    otel_shutdown, otel_tracer,
 };
 use super::version::hold_version;
 use super::{check, Counts, Held, RawHandle, TracerKey};
@@ -119,6 +119,18 @@ impl Handle {
         let answer = check(unsafe { otel_shutdown(&mut self.raw) });
         self.is_shut_down |= matches!(answer, Ok(()) | Err(Error::Failed));
         answer
+    }
+
+    /// Goes on in a child process: without the spans and lines of the parent, and with another seed. No call was under
+    /// way when the process forked.
+    pub fn go_on_after_fork(&mut self, seed: u64) -> Result<(), Error> {
+        // SAFETY: as above.
+        check(unsafe { otel_after_fork(&mut self.raw, seed) })?;
+        if self.is_shut_down {
+            // It says that it failed where it is shut down still.
+            let _is_shut = self.shutdown();
+        }
+        Ok(())
     }
 
     /// Lets all be that the handle owns: it is the parent's, where this process was made by a fork.
