@@ -7,19 +7,21 @@ import collections
 import ctypes
 import weakref
 from functools import partial
-from typing import Any, Callable, Deque, Dict, List, NamedTuple, Optional, Sequence, Set, TypeVar, Union
+from typing import Any, Callable, Deque, Dict, Iterator, List, NamedTuple, Optional, Sequence, Set, TypeVar, Union
 
 from . import _declarations, _fork, _native
+from ._attributes import listed
 from ._counting import Count
 from ._failures import Failures
 from ._native import Counts
+from ._outbox import spans_in
 from ._turns import Call, Turns
 from ._values import Encoded, text
 from .errors import OtelError, OtherProcess
 
 NO_SPAN = 0
-# What most answers fit into, in bytes.
-_ROOM = 512
+# What most answers fit into, in bytes, and what some lines do.
+_ROOM, _ROOM_OF_LINES = 512, 2**18
 _ENDS_TO_WAKE = 256
 
 
@@ -151,6 +153,8 @@ class Handle:
         self._gone: Deque[Watch] = collections.deque()
         self._forgotten = Count()
         self._lost = Count()
+        # What was drained to be closed; an error in between loses none.
+        self._last_lines: List[bytes] = []
         self.is_shut_down = False
         self.is_closed = False
         self.is_foreign = False
@@ -189,24 +193,15 @@ class Handle:
     def _do(self, name: str, *arguments: Any) -> None:
         _native.check(name, self._status(name, *arguments))
 
-    def _do_with(self, attributes: Sequence[Encoded], name: str, *calls: Call) -> None:
-        """Gathers attributes for the first of some calls. Others that were gathered are forgotten, before and after."""
-        forget = self._call("otel_set_attributes", NO_SPAN)
-        gather = [self._call(f"otel_with_{form}", *arguments) for form, arguments in attributes]
-        status = self._take(self._turns.take, [*gather, *calls], forget)
-        if status != _native.OK and gather:
-            self._turns.take_one(forget)
-        _native.check(name, status)
-
-    def _read(self, name: str, *arguments: Any) -> bytes:
-        length, wanted = ctypes.c_size_t(), self._rooms.get(name, _ROOM)
+    def _read(self, name: str, *arguments: Any, least: int = _ROOM) -> bytes:
+        length, wanted = ctypes.c_size_t(), self._rooms.get(name, least)
         while True:
             room = ctypes.create_string_buffer(wanted)
             status = self._status(name, *arguments, room, wanted, ctypes.byref(length))
             if status != _native.BUFFER_TOO_SMALL:
                 _native.check(name, status)
                 # The next answer is seldom twice as long; where it is, the library writes it a second time.
-                self._rooms[name] = max(_ROOM, 2 * length.value)
+                self._rooms[name] = max(least, 2 * length.value)
                 return ctypes.string_at(room, length.value)
             wanted = length.value
 
@@ -222,15 +217,16 @@ class Handle:
         """Starts a child of an open span of this handle, of the span that headers name, or of NO_SPAN."""
         tracer = self._tracer(beginning.scope)
         started = Started(self)
-        rest = (beginning.kind, *text(beginning.name), beginning.moment, started.key_cell)
+        attributes = listed(beginning.attributes)
+        rest = (beginning.kind, *text(beginning.name), beginning.moment, *attributes, started.key_cell)
         if isinstance(parent, int):
-            start = self._call("otel_start", tracer, parent, *rest)
+            start = self._call("otel_start_with", tracer, parent, *rest)
         else:
             headers = (*text(parent.traceparent), *text(parent.tracestate), *text(parent.baggage))
-            start = self._call("otel_start_remote", tracer, *headers, *rest)
+            start = self._call("otel_start_remote_with", tracer, *headers, *rest)
         identify = self._call("otel_identity", started.key_cell, started.found)
         try:
-            self._do_with(beginning.attributes, "otel_start", start, identify)
+            _native.check("otel_start", self._take(self._turns.take, (start, identify)))
         except OtelError:
             if started.key:
                 started.finish(_ABANDON)
@@ -243,7 +239,7 @@ class Handle:
 
     def edit_with(self, attributes: Sequence[Encoded], name: str, key: int, *arguments: Any) -> None:
         """Edits a span by a function that takes attributes."""
-        self._do_with(attributes, name, self._call(name, key, *arguments))
+        self._do(name, key, *arguments, *listed(attributes))
 
     def inject(self, key: int) -> bytes:
         """The headers of a span, as lines."""
@@ -323,14 +319,19 @@ class Handle:
         """Exports what is due."""
         self._do("otel_run", moment)
 
-    def drain(self) -> bytes:
-        """The lines of what was exported, which are then forgotten."""
-        return self._read("otel_drain")
+    def drain(self) -> Iterator[bytes]:
+        """The lines of what was exported until now, some at a time, which are then forgotten. What other threads export
+        meanwhile may be left."""
+        left = self.count().undrained_spans
+        while left > 0:
+            lines = self._read("otel_drain_some", least=_ROOM_OF_LINES)
+            yield lines
+            left = left - spans_in(lines) if lines else 0
 
     def count(self) -> Counts:
         """How many spans are where."""
         found = _declarations.Numbers()
-        self._do("otel_count", found)
+        self._do("otel_count", found, ctypes.sizeof(found))
         return Counts(*(getattr(found, name) for name in Counts._fields))
 
     def shutdown(self) -> None:
@@ -343,10 +344,11 @@ class Handle:
         self.is_shut_down = True
         # One that was shut down before answers that it failed; what an export lost is counted.
         self._status("otel_shutdown")
-        lines = self._read("otel_drain")
+        for lines in self.drain():
+            self._last_lines.append(lines)
         self._do("otel_close")
         self.is_closed = True
-        return lines
+        return b"".join(self._last_lines)
 
     def before_fork(self) -> None:
         """Waits for the call that runs, so that the child finds none half done."""

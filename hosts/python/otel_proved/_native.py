@@ -37,8 +37,14 @@ class Counts(NamedTuple):
     dropped_spans: int
     #: Ended, and refused when memory ran out.
     refused_spans: int
-    #: Exported, and not kept when memory ran out.
+    #: Exported, and not kept: memory ran out, or as many spans were kept as OTEL_C_MAX_UNDRAINED_SPANS allows.
     lost_batches: int
+    #: The spans of these batches.
+    lost_spans: int
+    #: Exported and kept, and not drained yet.
+    undrained_spans: int
+    #: How many bytes the lines take that were made and not drained yet.
+    undrained_bytes: int
 
 
 OK = 0
@@ -58,7 +64,8 @@ _ERRORS: Dict[int, Type[errors.OtelError]] = {
 
 # The calls that let other threads run meanwhile. Where a short one did too, a thread that traces would wait for its
 # next step as long as each of the others works.
-_LONG = {"otel_open", "otel_flush", "otel_run", "otel_drain", "otel_shutdown", "otel_close"}
+_LONG = {"otel_open", "otel_flush", "otel_run", "otel_drain_some", "otel_shutdown", "otel_close"}
+_WITHOUT_HANDLE = {"otel_version"}
 
 Functions = Dict[str, Callable[..., int]]
 
@@ -100,16 +107,17 @@ def functions() -> Functions:
     path = _path()
     try:
         others_run, others_wait = ctypes.CDLL(path), ctypes.PyDLL(path)
-        return {
+        found = {
             name: _declared(others_run if name in _LONG else others_wait, name, arguments)
             for name, arguments in FUNCTIONS.items()
         }
     except (OSError, AttributeError) as error:
         raise errors.LibraryNotFound(f"{path} cannot be used: {error}") from error
+    return found
 
 
 def _declared(library: ctypes.CDLL, name: str, arguments: Tuple[Any, ...]) -> Any:
     function = getattr(library, name)
-    function.argtypes = [POINTER(HandleMemory), *arguments]
+    function.argtypes = [*(() if name in _WITHOUT_HANDLE else (POINTER(HandleMemory),)), *arguments]
     function.restype = c_uint32
     return function

@@ -11,7 +11,7 @@ from __future__ import annotations
 import operator
 import threading
 from functools import partial
-from typing import Any, Callable, Iterable, Sequence
+from typing import Any, Callable, Iterable
 
 from .errors import Busy
 
@@ -28,23 +28,17 @@ class Turns:
         #: Whether the code that asks runs in the middle of a turn of its own thread.
         self.is_mine: Callable[[], bool] = self._lock._is_owned
 
-    def take(self, calls: Iterable[Call], before: Call) -> int:
-        """Makes calls until one answers another status than 0, and answers that; 0 where none does.
-
-        In the same turn another one is made before them, whatever that answers. Busy in the middle of a turn.
-        """
-        first_failure = partial(next, filter(None, map(_make, calls)), 0)
-        return self._made((self._lock.acquire, before, first_failure, self._lock.release), 2)
+    def take(self, calls: Iterable[Call]) -> int:
+        """Makes calls until one answers another status than 0, and answers that; 0 where none does. Busy in the middle
+        of a turn."""
+        return self.take_one(partial(next, filter(None, map(_make, calls)), 0))
 
     def take_one(self, call: Call) -> int:
         """Makes a call, and answers its status. Busy in the middle of a turn."""
-        return self._made((self._lock.acquire, call, self._lock.release), 1)
-
-    def _made(self, steps: Sequence[Call], answer: int) -> int:
         if self.is_mine():
             raise Busy("a call came in the middle of another one by the same thread")
         try:
-            return tuple(map(_make, steps))[answer]  # type: ignore[no-any-return]
+            return tuple(map(_make, (self._lock.acquire, call, self._lock.release)))[1]  # type: ignore[no-any-return]
         except BaseException:
             # A signal that came while the lock was waited for, or else no memory for the steps.
             if self.is_mine():

@@ -18,14 +18,15 @@ LAST_MOMENT = 2**64 - 1
 
 
 class Encoded(NamedTuple):
-    """An attribute, as otel_with_FORM takes it."""
+    """An attribute: the form of its value, and the key and the value as arguments. otel_set_FORM takes one that is no
+    list, and a list of otel_attribute any."""
 
     form: str
     arguments: Tuple[Any, ...]
 
     @property
     def is_list(self) -> bool:
-        """Whether its value is a list, which only otel_with_FORM takes."""
+        """Whether its value is a list, which no otel_set_FORM takes."""
         return self.form.endswith("s")
 
 

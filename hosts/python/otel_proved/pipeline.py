@@ -9,7 +9,7 @@ import secrets
 import time
 import weakref
 from functools import partial
-from typing import Dict, List, Mapping, Optional, Protocol
+from typing import Dict, Iterator, List, Mapping, Optional, Protocol
 
 from . import _fork
 from ._failures import Failures
@@ -216,8 +216,20 @@ class Pipeline(Starter, _fork.Renewed):
         self._look()
 
     def drain(self) -> List[bytes]:
-        """The lines of what was exported, without their line feeds. They are then forgotten."""
-        return _lines_of(self._live().drain())
+        """The lines of what was exported, without their line feeds. They are then forgotten. Where memory runs out after
+        some lines those are handed out, and the others by a later call."""
+        lines: List[bytes] = []
+        try:
+            for some in self.drain_some():
+                lines += some
+        except OtelError:
+            if not lines:
+                raise
+        return lines
+
+    def drain_some(self) -> Iterator[List[bytes]]:
+        """The same, some lines at a time. What was handed out is not lost where an exception ends it."""
+        return map(_lines_of, self._live().drain())
 
     def shutdown(self) -> None:
         """Exports what waits, and nothing afterwards. Lines can still be drained."""
@@ -241,11 +253,11 @@ class Pipeline(Starter, _fork.Renewed):
     def _look(self) -> None:
         """Warns where spans were dropped, refused or lost since it looked last."""
         counts = self._live().count()
-        lost = counts.dropped_spans + counts.refused_spans + self.lost_spans
-        if lost + counts.lost_batches > self._seen_lost:
-            self._seen_lost = lost + counts.lost_batches
-            said = "%d spans and %d batches of spans are lost: the queue was full, or memory ran out"
-            self._notices.warn("lost", said, lost, counts.lost_batches)
+        lost = counts.dropped_spans + counts.refused_spans + counts.lost_spans + self.lost_spans
+        if lost > self._seen_lost:
+            self._seen_lost = lost
+            said = "%d spans are lost: the queue was full, too many were not drained, or memory ran out"
+            self._notices.warn("lost", said, lost)
 
     def __enter__(self) -> "Pipeline":
         return self

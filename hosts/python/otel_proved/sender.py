@@ -232,9 +232,9 @@ class Sender(_fork.Renewed):
             # What was exported until then is sent all the same.
             self._note(str(error))
         try:
-            lines = self._pipeline.drain()
+            for lines in self._pipeline.drain_some():
+                self._delivery.put(lines)
         except OtelError as error:
             self._note(str(error))
             return False
-        self._delivery.put(lines)
         return True

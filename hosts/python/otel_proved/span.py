@@ -137,13 +137,13 @@ class Span:
         """Sets an attribute: a str, a bool, an int of 64 bits, a float, or a list of one of these."""
         encoded = encode(key, value, self._failures) if self._is_recording else None
         if encoded is not None and encoded.is_list:
-            self._edit_with([encoded], "otel_set_attributes")
+            self._edit_with([encoded], "otel_set_attributes_with")
         elif encoded is not None:
             self._edit(f"otel_set_{encoded.form}", *encoded.arguments)
 
     def set_attributes(self, attributes: Attributes) -> None:
         """Sets attributes, all or none of those that are not left out."""
-        self._edit_with(self._encoded(attributes), "otel_set_attributes")
+        self._edit_with(self._encoded(attributes), "otel_set_attributes_with")
 
     def _encoded(self, attributes: Optional[Attributes]) -> List[Encoded]:
         return encode_all(attributes, self._failures) if self._is_recording else []
@@ -151,7 +151,7 @@ class Span:
     def add_event(self, name: str, attributes: Optional[Attributes] = None, moment: Optional[int] = None) -> None:
         """Adds an event; without a moment it is now."""
         when = moment_near(moment, self._failures)
-        self._edit_with(self._encoded(attributes), "otel_add_event", *text(text_of(name)), when)
+        self._edit_with(self._encoded(attributes), "otel_add_event_with", *text(text_of(name)), when)
 
     def add_link(self, linked: Union["Span", Remote], attributes: Optional[Attributes] = None) -> None:
         """Adds a link to another span, also of another process."""
@@ -162,9 +162,9 @@ class Span:
             return
         key = linked.key_at(self._handle) if isinstance(linked, Span) else None
         if key is not None:
-            return self._edit_with(encoded, "otel_add_link", key)
+            return self._edit_with(encoded, "otel_add_link_with", key)
         headers = remote_of(linked).encoded()
-        self._edit_with(encoded, "otel_add_remote_link", *text(headers.traceparent), *text(headers.tracestate))
+        self._edit_with(encoded, "otel_add_remote_link_with", *text(headers.traceparent), *text(headers.tracestate))
 
     def set_status(self, code: StatusCode, description: str = "") -> None:
         """Says how the work went; only an error has a description."""

@@ -236,7 +236,7 @@ class Survives(SenderTest):
     def test_a_drain_that_finds_no_memory(self):
         collector = self.collector()
         sender = self.sender(collector.url)
-        with self.no_memory("otel_drain"):
+        with self.no_memory("otel_drain_some"):
             self.trace("kept")
             self.assertFalse(sender.flush(0.2))
             self.assertIn("otel_drain", sender.last_failure)

@@ -206,7 +206,7 @@ class Within(PipelineTest):
 
     def test_an_end_is_carried_out_by_whoever_leaves(self):
         ended, abandoned = self.pipeline.start_span("ended"), self.pipeline.start_span("abandoned")
-        self.within("otel_with_integer", lambda: (ended.end(5), abandoned.abandon()))
+        self.within("otel_start_with", lambda: (ended.end(5), abandoned.abandon()))
         with self.pipeline.span("whole", attributes={"a": 1, "b": 2}):
             self.assertEqual(self.pipeline.counts().open_spans, 1)
         found = self.exported()
@@ -215,18 +215,18 @@ class Within(PipelineTest):
         self.assertEqual((self.pipeline.failed_calls, self.pipeline.counts().open_spans), (0, 0))
 
     def test_a_start_is_refused_and_counted(self):
-        self.within("otel_with_integer", lambda: self.pipeline.start_span("interrupts").end())
+        self.within("otel_start_with", lambda: self.pipeline.start_span("interrupts").end())
         with self.pipeline.span("whole", attributes={"a": 1, "b": 2}):
             pass
         self.assertEqual(attributes_of(self.exported()["whole"]), {"a": 1, "b": 2})
         self.assertEqual(self.pipeline.failed_calls, 1)
         self.assertIsInstance(self.pipeline.last_failure, Busy)
 
-    def test_what_was_gathered_is_forgotten_where_a_call_raises(self):
+    def test_what_a_call_was_given_is_forgotten_where_it_raises(self):
         def fail():
             raise MemoryError
 
-        self.within("otel_start", fail)
+        self.within("otel_start_with", fail)
         self.assertRaises(MemoryError, self.pipeline.start_span, "fails", attributes={"stray": 1})
         with self.pipeline.span("next", attributes={"a": 1}) as span:
             span.add_event("row")
