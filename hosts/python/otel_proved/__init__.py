@@ -16,6 +16,7 @@ from .errors import (
     NotUtf8,
     OtelError,
     OtherProcess,
+    OtherVersion,
     OutOfMemory,
     UnknownStatus,
 )
@@ -49,6 +50,7 @@ __all__ = [
     "NotUtf8",
     "OtelError",
     "OtherProcess",
+    "OtherVersion",
     "OutOfMemory",
     "Pipeline",
     "Remote",

@@ -10,7 +10,7 @@ from ctypes import POINTER, c_bool, c_uint32, c_void_p
 from typing import Any, Callable, Dict, List, NamedTuple, Tuple, Type
 
 from . import errors
-from ._declarations import FUNCTIONS
+from ._declarations import FUNCTIONS, VERSION
 
 LIBRARY = "libotel_c.so"
 VARIABLE = "OTEL_C_LIBRARY"
@@ -113,7 +113,18 @@ def functions() -> Functions:
         }
     except (OSError, AttributeError) as error:
         raise errors.LibraryNotFound(f"{path} cannot be used: {error}") from error
+    _hold_version(path, found["otel_version"])
     return found
+
+
+def _hold_version(path: str, ask: Callable[..., int]) -> None:
+    """Raises an exception where the library is of another version than what is declared here."""
+    numbers = [c_uint32() for _ in VERSION]
+    check("otel_version", ask(*numbers))
+    library = tuple(it.value for it in numbers)
+    if library[:2] != VERSION[:2]:
+        is_of, is_for = ".".join(map(str, library)), ".".join(map(str, VERSION[:2]))
+        raise errors.OtherVersion(f"{path} is of version {is_of}, and this package is for {is_for}")
 
 
 def _declared(library: ctypes.CDLL, name: str, arguments: Tuple[Any, ...]) -> Any:

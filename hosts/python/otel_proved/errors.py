@@ -52,6 +52,10 @@ class LibraryNotFound(OtelError, ImportError):
     """The shared library is at none of its places, or lacks a function."""
 
 
+class OtherVersion(OtelError, ImportError):
+    """The shared library is of another version than this package was made for."""
+
+
 class Busy(OtelError):
     """A call came in the middle of another one by the same thread, from what the garbage collector runs."""
 

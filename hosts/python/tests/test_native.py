@@ -49,7 +49,21 @@ class Places(unittest.TestCase):
             self.ends_with({"OTEL_C_LIBRARY": file.name}, "cannot be used")
 
     def test_a_library_without_the_functions_is_an_error(self):
-        self.ends_with({"OTEL_C_LIBRARY": _libc()}, "cannot be used: .*otel_open")
+        self.ends_with({"OTEL_C_LIBRARY": _libc()}, "cannot be used: .*otel_version")
+
+    def test_a_library_of_another_version_is_an_error(self):
+        here = _declarations.VERSION
+
+        def ask(*numbers):
+            for number, is_of in zip(numbers, library):
+                number.value = is_of
+            return _native.OK
+
+        library = (*here[:2], here[2] + 1)
+        _native._hold_version("here", ask)
+        for library in ((here[0], here[1] + 1, 0), (here[0] + 1, here[1], 0)):
+            said = f"here is of version {'.'.join(map(str, library))}, and this package is for {here[0]}.{here[1]}"
+            self.assertRaisesRegex(errors.OtherVersion, f"^{re.escape(said)}$", _native._hold_version, "here", ask)
 
     def test_an_unknown_status_has_an_error(self):
         self.assertIsInstance(_native.error_of("otel_open", 77), errors.UnknownStatus)
