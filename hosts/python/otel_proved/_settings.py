@@ -14,7 +14,7 @@ _OURS = b"OTEL_"
 _RESOURCE = b"OTEL_RESOURCE_ATTRIBUTES"
 PROPAGATORS = "OTEL_PROPAGATORS"
 # Of senders, of headers, and of what finds the library.
-_OF_OTHERS = (b"OTEL_EXPORTER_", b"OTEL_C_", b"OTEL_TRACES_EXPORTER", PROPAGATORS.encode())
+_OF_OTHERS = (b"OTEL_EXPORTER_", b"OTEL_C_DIR", b"OTEL_C_LIBRARY", b"OTEL_TRACES_EXPORTER", PROPAGATORS.encode())
 _HEADERS = {"tracecontext": ("traceparent", "tracestate"), "baggage": ("baggage",), "none": ()}
 
 

@@ -1,6 +1,7 @@
 # SPDX-License-Identifier: Apache-2.0
 """Pipelines: settings, threads, forks, and how they are closed."""
 
+import contextlib
 import ctypes
 import gc
 import json
@@ -12,9 +13,9 @@ import unittest
 from unittest import mock
 
 import otel_proved
-from otel_proved import ROOT, BadSetting, Closed, Failed, OtherProcess, Pipeline, Remote, _fork
+from otel_proved import ROOT, BadSetting, Closed, Failed, OtherProcess, OutOfMemory, Pipeline, Remote, _fork
 
-from .support import SHORT, Collector, PipelineTest, attributes_of, spans_in
+from .support import OUT_OF_MEMORY, SHORT, Collector, PipelineTest, attributes_of, spans_in
 
 
 def in_child(work):
@@ -133,6 +134,62 @@ class Closing(PipelineTest):
             del pipeline, span
             gc.collect()
         self.assertEqual(closed, [0])
+
+
+class Undrained(PipelineTest):
+    settings = {"OTEL_SPAN_PROCESSOR": "simple", "OTEL_C_MAX_UNDRAINED_SPANS": "3"}
+
+    def test_what_nobody_drains_has_a_bound(self):
+        self.assertEqual(self.pipeline.ignored_settings, [])
+        for _ in range(5):
+            self.pipeline.start_span("a").end()
+        counts = self.pipeline.counts()
+        self.assertEqual((counts.undrained_spans, counts.lost_batches, counts.lost_spans), (3, 2, 2))
+        with self.assertLogs("otel_proved", "WARNING") as logged, contextlib.suppress(Failed):
+            self.pipeline.run()
+        self.assertIn("2 spans are lost: the queue was full, too many were not drained", logged.output[0])
+        self.assertEqual(len(self.pipeline.drain()), 3)
+        self.assertEqual(self.pipeline.counts()[-2:], (0, 0))
+
+    def test_it_is_a_setting_of_the_environment(self):
+        with mock.patch.dict(os.environ, {"OTEL_C_MAX_UNDRAINED_SPANS": "1", "OTEL_SPAN_PROCESSOR": "simple"}):
+            with Pipeline() as pipeline:
+                for _ in range(2):
+                    pipeline.start_span("a").end()
+                self.assertEqual((pipeline.ignored_settings, len(pipeline.drain())), ([], 1))
+
+
+class Draining(PipelineTest):
+    settings = {"OTEL_SPAN_PROCESSOR": "simple"}
+
+    def end_all(self):
+        """Lines that are longer than there is room for at first, among short ones."""
+        for number in range(9):
+            text = "x" * 500_000 if number % 3 == 1 else "short"
+            self.pipeline.start_span(str(number), attributes={"text": text}).end()
+        return [str(number) for number in range(9)]
+
+    def test_long_lines_come_whole_and_in_order(self):
+        wanted = self.end_all()
+        lines = self.pipeline.drain()
+        self.assertEqual([name for line in lines for name in spans_in([line])], wanted)
+        self.assertEqual(self.pipeline.drain(), [])
+
+    def test_what_came_before_an_error_is_not_lost(self):
+        wanted = self.end_all()
+        functions = self.pipeline._handle._functions
+        real, answers = functions["otel_drain_some"], [None, OUT_OF_MEMORY] * 9
+
+        def now_and_then(*arguments):
+            return answers.pop() or real(*arguments)
+
+        with mock.patch.dict(functions, {"otel_drain_some": now_and_then}):
+            answers.append(None)
+            first = self.pipeline.drain()
+            self.assertRaises(OutOfMemory, self.pipeline.drain)
+        self.assertTrue(first)
+        lines = first + self.pipeline.drain()
+        self.assertEqual([name for line in lines for name in spans_in([line])], wanted)
 
 
 class Threads(PipelineTest):
