@@ -137,7 +137,14 @@ def _drop(waiting: "Deque[_Item]", item: _Item) -> None:
 class Handle:
     """An open handle. Each method answers what the library does, or raises an OtelError."""
 
-    def __init__(self, settings: bytes, seed: int, failures: Failures, wake: Callable[[], None]) -> None:
+    def __init__(
+        self,
+        settings: bytes,
+        seed: int,
+        failures: Failures,
+        wake: Callable[[], None],
+        parents: Optional["Handle"] = None,
+    ) -> None:
         self._functions = _native.functions()
         self._memory = _native.HandleMemory()
         self._address = ctypes.byref(self._memory)
@@ -147,6 +154,8 @@ class Handle:
         self._ended = Count()
         self._turns = Turns()
         self._tracers: Dict[Scope, int] = {NO_SCOPE: 0}
+        # The first to ask in the child of a fork may: a step of C code, which needs no lock.
+        self._may_go_on: Iterator[bool] = iter(())
         self._rooms: Dict[str, int] = {}
         self._queue: Deque[Finish] = collections.deque()
         self._watches: Set[Watch] = set()
@@ -158,8 +167,17 @@ class Handle:
         self.is_shut_down = False
         self.is_closed = False
         self.is_foreign = False
-        self._do("otel_open", *text(settings), seed)
+        self._begin(settings, seed, parents)
         _fork.register(self)
+
+    def _begin(self, settings: bytes, seed: int, parents: Optional["Handle"]) -> None:
+        """Opens the handle. In the child of a fork it goes on with that of the parent, where that was between two calls
+        and no other goes on with it."""
+        if parents is None or not next(parents._may_go_on, False):
+            return self._do("otel_open", *text(settings), seed)
+        self._memory, self._address = parents._memory, parents._address
+        self._tracers.update(parents._tracers)
+        self._do("otel_after_fork", seed)
 
     @property
     def forgotten_spans(self) -> int:
@@ -360,7 +378,9 @@ class Handle:
         self.carry_out_ends()
 
     def after_fork_in_child(self) -> None:
-        """Never uses the parent's handle again, which stays in memory as it is."""
+        """Calls by what is the parent's are refused. Another handle may go on where no call was under way."""
+        if not self.is_closed and not self.is_foreign:
+            self._may_go_on = iter((True,) if self._turns.is_mine() else ())
         self._turns = Turns()
         self._queue.clear()
         self._watches.clear()

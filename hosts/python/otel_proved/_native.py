@@ -64,7 +64,7 @@ _ERRORS: Dict[int, Type[errors.OtelError]] = {
 
 # The calls that let other threads run meanwhile. Where a short one did too, a thread that traces would wait for its
 # next step as long as each of the others works.
-_LONG = {"otel_open", "otel_flush", "otel_run", "otel_drain_some", "otel_shutdown", "otel_close"}
+_LONG = {"otel_open", "otel_after_fork", "otel_flush", "otel_run", "otel_drain_some", "otel_shutdown", "otel_close"}
 _WITHOUT_HANDLE = {"otel_version"}
 
 Functions = Dict[str, Callable[..., int]]

@@ -20,7 +20,7 @@ from ._outbox import spans_in
 from ._settings import settings_of
 from ._values import Attributes, encode_all, moment_fault, moment_near, text_of
 from .current import SpanBlock, current_span
-from .errors import NoSuchSpan, OtelError
+from .errors import Failed, NoSuchSpan, OtelError
 from .remote import Remote
 from .span import ROOT, Kind, Parent, Span, UnstartedSpan, member_of, origin_of, remote_of, started_parent
 
@@ -100,7 +100,8 @@ class Tracer(Starter):
 
 
 class Pipeline(Starter, _fork.Renewed):
-    """A pipeline, safe for use from several threads. After a fork the child's is opened anew, with another seed.
+    """A pipeline, safe for use from several threads. After a fork it goes on in the child with another seed, without the
+    spans and the lines of the parent.
 
     The settings are those of `otel_open` in hosts/c/otel.h, by name. Without them each variable OTEL_* of the
     environment is one, but those that a Sender, `inject` and `extract` read. Without a seed it is random. The resource
@@ -156,9 +157,12 @@ class Pipeline(Starter, _fork.Renewed):
         return self._handle
 
     def _open_anew(self) -> None:
-        handle = Handle(self._settings, _seed_of(None), self._failures, partial(_wake, self._followers))
+        wake = partial(_wake, self._followers)
+        handle = Handle(self._settings, _seed_of(None), self._failures, wake, self._handle)
         if self._handle.is_shut_down:
-            handle.shutdown()
+            # It says that it failed where it is shut down still.
+            with contextlib.suppress(Failed):
+                handle.shutdown()
         # Another thread, or the handler of a signal, may have opened one meanwhile.
         self._handle = self._opened.setdefault("anew", handle)
         for follower in self._followers:

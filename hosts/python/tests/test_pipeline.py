@@ -238,8 +238,11 @@ class Forks(PipelineTest):
         if child == 0:
             # What PyOS_AfterFork_Child calls; the whole of it ends a process of Python 3.13 that heard of no fork.
             _fork._after_in_child()
+            parents = self.pipeline._handle
             started = self.pipeline.start_span("in the child").context
-            os._exit(0 if started.trace_id != drawn_next and not self.pipeline.failed_calls else 1)
+            # A call may have been under way, so the parent's handle is left as it is.
+            is_anew = self.pipeline._handle._memory is not parents._memory
+            os._exit(0 if is_anew and started.trace_id != drawn_next and not self.pipeline.failed_calls else 1)
         self.assertEqual(os.waitstatus_to_exitcode(os.waitpid(child, 0)[1]), 0)
 
     def drawn_next(self):
@@ -264,6 +267,48 @@ class Forks(PipelineTest):
 
             self.assertEqual(in_child(work), 0)
         self.assertEqual(set(self.exported()), {"of the parent", "before"})
+
+    def test_it_goes_on_with_the_handle_of_the_parent(self):
+        tracer = self.pipeline.tracer("shop")
+        tracer.start_span("waits").end()
+        opened = tracer.start_span("open")
+        parents = self.pipeline._handle
+        drawn_next = self.drawn_next()
+
+        def work():
+            with tracer.span("in the child") as span:
+                self.assertNotEqual(span.context.trace_id, drawn_next)
+            self.assertIs(self.pipeline._handle._memory, parents._memory)
+            self.assertEqual({name: it["scope"] for name, it in self.exported().items()}, {"in the child": "shop"})
+            self.assertEqual((self.pipeline.failed_calls, self.pipeline.counts().open_spans), (0, 0))
+            self.assertEqual(in_child(again), 0)
+            self.assertEqual(self.pipeline.close(), [])
+
+        def again():
+            with tracer.span("in its child"):
+                pass
+            self.assertEqual([*spans_in(self.pipeline.close())], ["in its child"])
+
+        self.assertEqual(in_child(work), 0)
+        self.assertEqual(in_child(lambda: self.assertEqual(in_child(work), 0)), 0)
+        self.assertEqual((*self.exported(), self.pipeline.counts().open_spans), ("waits", 1))
+        opened.end()
+
+    def test_one_goes_on_where_two_ask(self):
+        """As two threads of the child may, or the handler of a signal in the middle of the other."""
+        parents = self.pipeline._handle
+
+        def work():
+            made = [type(parents)(b"", 7, self.pipeline._failures, lambda: None, parents) for _ in range(2)]
+            self.assertEqual([it._memory is parents._memory for it in made], [True, False])
+            self.assertEqual(list(spans_in(self.child_lines())), ["child"])
+
+        self.assertEqual(in_child(work), 0)
+
+    def child_lines(self):
+        self.pipeline.start_span("child").end()
+        self.pipeline.flush()
+        return self.pipeline.drain()
 
     def test_ids_differ_from_the_parent_s(self):
         with mock.patch("secrets.randbits", return_value=99) as randbits:
