@@ -14,6 +14,8 @@ from programs import TOP, Fault, LeftOut, environment, need, run
 C = f"{TOP}/hosts/c"
 RUST = f"{TOP}/hosts/rust"
 PYTHON = f"{TOP}/hosts/python"
+# Where Debian's packages librust-*-dev put the sources of crates.
+CRATES = "/usr/share/cargo/registry"
 SECONDS_TO_BUILD = 600
 SECONDS_TO_TEST = 900
 # Of all random calls a tenth is made by the driver with the address sanitizer, which is slower.
@@ -36,6 +38,7 @@ def parts(calls):
         "rust_build": build_rust,
         "rust_tests": lambda: run_all(["cargo", "test", "--offline", "--quiet"], cwd=RUST),
         "rust_clippy": look_at_rust,
+        "rust_tracing": try_tracing,
         "python_tests": test_python,
         "python_versions": test_other_pythons,
     }
@@ -86,13 +89,34 @@ def build_rust():
     run(["cargo", "build", "--release", "--offline", "--examples", "--quiet"], SECONDS_TO_BUILD, cwd=RUST)
 
 
+def has_clippy():
+    need("cargo", "cargo")
+    return subprocess.run(["cargo", "clippy", "--version"], capture_output=True).returncode == 0
+
+
 def look_at_rust():
     """Looks for what clippy finds, which also wants a reason at each unsafe block."""
-    need("cargo", "cargo")
-    if subprocess.run(["cargo", "clippy", "--version"], capture_output=True).returncode != 0:
+    if not has_clippy():
         raise LeftOut("clippy is not installed")
-    words = ["--offline", "--quiet", "--all-targets", "--", "-D", "warnings"]
-    run(["cargo", "clippy", *words], SECONDS_TO_BUILD, cwd=RUST)
+    run(clippy(), SECONDS_TO_BUILD, cwd=RUST)
+
+
+def clippy(*more):
+    return ["cargo", "clippy", *more, "--offline", "--quiet", "--all-targets", "--", "-D", "warnings"]
+
+
+def try_tracing():
+    """Runs the tests of the layer for `tracing`, whose crates are those of Debian, and looks for what clippy finds."""
+    need("cargo", "cargo")
+    if not all(glob.glob(f"{CRATES}/{it}-[0-9]*") for it in ("tracing", "tracing-subscriber")):
+        raise LeftOut("librust-tracing-dev and librust-tracing-subscriber-dev are not installed")
+    source = {"source.crates-io.replace-with": "debian", "source.debian.directory": CRATES}
+    words = [word for key, value in source.items() for word in ("--config", f'{key}="{value}"')]
+    run(["cargo", "test", *words, "--offline", "--quiet"], SECONDS_TO_TEST, cwd=f"{RUST}/tracing")
+    if not has_clippy():
+        return "without clippy, which is not installed"
+    run(clippy(*words), SECONDS_TO_BUILD, cwd=f"{RUST}/tracing")
+    return None
 
 
 def test_python():
