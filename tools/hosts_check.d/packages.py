@@ -7,6 +7,7 @@ import re
 import shutil
 import subprocess
 import sys
+import tempfile
 from concurrent.futures import ThreadPoolExecutor
 
 from programs import TOP, Fault, LeftOut, environment, need, run
@@ -38,6 +39,7 @@ def parts(calls):
         "rust_build": build_rust,
         "rust_tests": lambda: run_all(["cargo", "test", "--offline", "--quiet"], cwd=RUST),
         "rust_clippy": look_at_rust,
+        "rust_installed": build_over_installed,
         "rust_tracing": try_tracing,
         "python_tests": test_python,
         "python_versions": test_other_pythons,
@@ -103,6 +105,31 @@ def look_at_rust():
 
 def clippy(*more):
     return ["cargo", "clippy", *more, "--offline", "--quiet", "--all-targets", "--", "-D", "warnings"]
+
+
+def build_over_installed():
+    """Builds a copy of the package by an installed library, in folders with spaces, and looks what is said without."""
+    need("cargo", "cargo")
+    need("pkg-config", "pkg-config")
+    with tempfile.TemporaryDirectory(prefix="a room ") as room:
+        shutil.copytree(RUST, f"{room}/hosts/rust", ignore=shutil.ignore_patterns("target", "tracing"))
+        os.makedirs(f"{room}/installed/lib/pkgconfig")
+        shutil.copy(f"{TOP}/bin/libotel_c.a", f"{room}/installed/lib")
+        with open(f"{C}/package/otel_c.pc.in", encoding="utf-8") as told:
+            text = told.read().replace("@VERSION@", "0")
+        with open(f"{room}/installed/lib/pkgconfig/otel_c.pc", "w", encoding="utf-8") as told:
+            told.write(text)
+        build = ["cargo", "build", "--offline", "--quiet", "--example", "bench", "--target-dir", f"{room}/target"]
+        how = {"cwd": f"{room}/hosts/rust"}
+        variables = {"PKG_CONFIG_PATH": f"{room}/installed/lib/pkgconfig"}
+        run(build, SECONDS_TO_BUILD, env=environment(**variables), **how)
+        run([f"{room}/target/debug/examples/bench", "1"], SECONDS_TO_TEST)
+        try:
+            run(build, SECONDS_TO_BUILD, env=environment(PKG_CONFIG_PATH="", PKG_CONFIG="false"), **how)
+        except Fault as fault:
+            if "Unpack a release" in str(fault) and "./run --build c" in str(fault):
+                return
+        raise Fault("without a library the package does not say where to get one")
 
 
 def try_tracing():
