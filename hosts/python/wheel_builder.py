@@ -17,6 +17,10 @@ TOP = os.path.join(HERE, "..", "..")
 PACKAGE = "otel_proved"
 LIBRARY = "libotel_c.so"
 LICENCES = ("LICENSE", "NOTICE")
+WAYS = (
+    "Unpack a release, and let OTEL_C_DIR name its folder lib/; or build the library: `./run --build c` at the top of "
+    "the repository proves it and makes it in bin/, in some 30 minutes."
+)
 # The earliest moment that a zip file can name, so that the same files make the same wheel.
 MOMENT = (1980, 1, 1, 0, 0, 0)
 
@@ -55,7 +59,7 @@ def library():
     folder = os.environ.get("OTEL_C_DIR") or os.path.join(TOP, "bin")
     path = os.path.normpath(os.path.join(folder, LIBRARY))
     if not os.path.isfile(path):
-        raise CannotBuild(f"there is no {path}: build {LIBRARY} first, or name its folder by OTEL_C_DIR")
+        raise CannotBuild(f"there is no {path}. {WAYS}")
     return bytes_of(path)
 
 

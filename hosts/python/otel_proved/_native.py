@@ -14,6 +14,10 @@ from ._declarations import FUNCTIONS, VERSION
 
 LIBRARY = "libotel_c.so"
 VARIABLE = "OTEL_C_LIBRARY"
+_WAYS = (
+    f"Unpack a release, and let {VARIABLE} name {LIBRARY} in its folder lib/; or build it: `./run --build c` at the top "
+    "of the repository proves it and makes it in bin/, in some 30 minutes."
+)
 
 
 class _Held(ctypes.Structure):
@@ -97,8 +101,8 @@ def _path() -> str:
         if os.path.isfile(place):
             return place
         if place == os.environ.get(VARIABLE):
-            raise errors.LibraryNotFound(f"{VARIABLE} names {place}, and there is no such file")
-    raise errors.LibraryNotFound(f"{LIBRARY} is at none of {', '.join(places())}; {VARIABLE} may name it")
+            raise errors.LibraryNotFound(f"{VARIABLE} names {place}, and there is no such file. {_WAYS}")
+    raise errors.LibraryNotFound(f"{LIBRARY} is at none of {', '.join(places())}. {_WAYS}")
 
 
 @functools.lru_cache(maxsize=None)

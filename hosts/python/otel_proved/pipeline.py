@@ -100,8 +100,8 @@ class Tracer(Starter):
 
 
 class Pipeline(Starter, _fork.Renewed):
-    """A pipeline, safe for use from several threads. After a fork it goes on in the child with another seed, without the
-    spans and the lines of the parent.
+    """A pipeline, safe for use from several threads. After a fork it goes on in the child with another seed, without
+    the spans and the lines of the parent.
 
     The settings are those of `otel_open` in hosts/c/otel.h, by name. Without them each variable OTEL_* of the
     environment is one, but those that a Sender, `inject` and `extract` read. Without a seed it is random. The resource
@@ -220,8 +220,8 @@ class Pipeline(Starter, _fork.Renewed):
         self._look()
 
     def drain(self) -> List[bytes]:
-        """The lines of what was exported, without their line feeds. They are then forgotten. Where memory runs out after
-        some lines those are handed out, and the others by a later call."""
+        """The lines of what was exported, without their line feeds. They are then forgotten. Where memory runs out
+        after some lines those are handed out, and the others by a later call."""
         lines: List[bytes] = []
         try:
             for some in self.drain_some():

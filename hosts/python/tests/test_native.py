@@ -7,6 +7,7 @@ import subprocess
 import sys
 import tempfile
 import unittest
+from unittest import mock
 
 from otel_proved import _declarations, _native, errors
 
@@ -42,7 +43,15 @@ class Places(unittest.TestCase):
         self.assertRegex(ran.stdout, wanted)
 
     def test_a_named_library_that_is_not_there_is_an_error(self):
-        self.ends_with({"OTEL_C_LIBRARY": "/nowhere/lib.so"}, "OTEL_C_LIBRARY names /nowhere/lib.so")
+        said = r"OTEL_C_LIBRARY names /nowhere/lib.so, .*\. Unpack a release, .* `\./run --build c` "
+        self.ends_with({"OTEL_C_LIBRARY": "/nowhere/lib.so"}, said)
+
+    def test_a_library_that_is_nowhere_is_an_error_that_says_how_to_get_it(self):
+        with mock.patch.object(_native, "places", lambda: ["/nowhere/a.so"]):
+            with self.assertRaises(errors.LibraryNotFound) as it:
+                _native._path()
+        for words in ("is at none of /nowhere/a.so. ", "Unpack a release", "./run --build c"):
+            self.assertIn(words, str(it.exception))
 
     def test_a_file_that_is_no_library_is_an_error(self):
         with tempfile.NamedTemporaryFile(suffix=".so") as file:

@@ -63,4 +63,6 @@ class Wheel(unittest.TestCase):
     def test_without_the_library_it_says_so(self):
         ran = self.build(self.folder)
         self.assertNotEqual(ran.returncode, 0)
-        self.assertIn(f"there is no {self.folder}/{_native.LIBRARY}: build", ran.stdout + ran.stderr)
+        said = ran.stdout + ran.stderr
+        for words in (f"there is no {self.folder}/{_native.LIBRARY}.", "Unpack a release", "./run --build c"):
+            self.assertIn(words, said)
