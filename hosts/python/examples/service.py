@@ -78,11 +78,12 @@ def application_of(pipeline, next_url, quit_service):
 
 def counts_of(pipeline, sender):
     """What became of the spans."""
-    names = ("sent_lines", "sent_spans", "lost_lines", "lost_spans")
+    counts = pipeline.counts()
     return {
-        **pipeline.counts()._asdict(),
+        **counts._asdict(),
         "failed_calls": pipeline.failed_calls,
-        **{name: getattr(sender, name) for name in names},
+        **{name: getattr(sender, name) for name in ("sent_lines", "sent_spans", "lost_lines")},
+        "lost_spans": counts.lost_spans + sender.lost_spans,
     }
 
 

@@ -111,7 +111,7 @@ fn shown(requests: u64, failed_calls: u64, counts: &Counts, sent: &SenderCounts)
         ("sent_spans", sent.sent_spans),
         ("rejected_spans", sent.rejected_spans),
         ("lost_lines", sent.lost_lines),
-        ("lost_spans", sent.lost_spans),
+        ("lost_spans", counts.lost_spans + sent.lost_spans),
     ];
     let members = members.map(|(name, number)| format!("\"{name}\":{number}"));
     format!("{{{}}}", members.join(","))
