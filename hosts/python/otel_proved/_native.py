@@ -15,8 +15,8 @@ from ._declarations import FUNCTIONS, VERSION
 LIBRARY = "libotel_c.so"
 VARIABLE = "OTEL_C_LIBRARY"
 _WAYS = (
-    f"Unpack a release, and let {VARIABLE} name {LIBRARY} in its folder lib/; or build it: `./run --build c` at the top "
-    "of the repository proves it and makes it in bin/, in some 30 minutes."
+    f"Unpack a release, and let {VARIABLE} name {LIBRARY} in its folder lib/; or build it: `./run --build c` at the "
+    "top of the repository proves it and makes it in bin/, in some 30 minutes."
 )
 
 

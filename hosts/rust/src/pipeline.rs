@@ -158,8 +158,8 @@ impl Pipeline {
     }
 
     /// For the child of a fork: has the pipeline go on in it, without the spans and lines of the parent, with other ids
-    /// and with counts that begin anew. Spans that were open are the parent's: calls of them count as failures. A sender
-    /// is the parent's too, so start another one. In another process than such a child it does nothing.
+    /// and with counts that begin anew. Spans that were open are the parent's: calls of them count as failures. So is a
+    /// sender: start another one. In a process that is no such child it does nothing.
     ///
     /// [`Error::OtherProcess`] where another thread was in the middle of a call at the fork. Then, and where the parent
     /// had closed it, the child opens a pipeline of its own.

@@ -18,8 +18,8 @@ use std::thread;
 use std::time::SystemTime;
 
 /// Work that is traced. It ends when it is dropped, at that moment, and is handed on for export where it is sampled.
-/// Where it is dropped by a panic it is an error, with an event `exception`. One that starts after the pipeline was shut
-/// down records nothing, and passes its parent on.
+/// Where it is dropped by a panic it is an error, with an event `exception`. One that starts after the pipeline was
+/// shut down records nothing, and passes its parent on.
 ///
 /// No call of a span panics or answers an error: what fails is counted by
 /// [`Pipeline::failed_calls`](crate::Pipeline::failed_calls). A span does not keep its pipeline open.

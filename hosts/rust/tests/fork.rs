@@ -1,6 +1,6 @@
 // SPDX-License-Identifier: Apache-2.0
-//! What a fork copies is the parent's: the child exports none of it, draws no id of it, and hangs nowhere, also where it
-//! goes on with the pipeline.
+//! What a fork copies is the parent's: the child exports none of it, draws no id of it, and hangs nowhere, also where
+//! it goes on with the pipeline.
 
 use otel_proved::http::{Endpoint, HttpSender, Limits};
 use otel_proved::{Error, Pipeline, TraceId, Tracer};

@@ -64,8 +64,8 @@ impl Slot {
         self.state.lock().unwrap_or_else(PoisonError::into_inner)
     }
 
-    /// The span, which has started then: below that of headers, or else its parent, or where it is asked for the current
-    /// span of the thread. A child's lock is taken before its parent's, never after it.
+    /// The span, which has started then: below that of headers, or else its parent, or where it is asked for the
+    /// current span of the thread. A child's lock is taken before its parent's, never after it.
     pub fn started(&self, tracer: &Tracer, is_below_current: bool) -> Arc<Span> {
         let mut state = self.lock();
         let waiting = match &mut *state {
