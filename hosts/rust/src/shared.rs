@@ -2,7 +2,7 @@
 //! What pipelines, tracers and spans of one pipeline share: its handle after a lock, a count of calls that failed, and
 //! who is told of what.
 
-use crate::ffi::{Counts, Handle, Owner, Process};
+use crate::ffi::{Counts, Handle, OfProcess, Process};
 use crate::moment::Moment;
 use crate::notices::{About, Callback, Notices};
 use crate::Error;
@@ -23,7 +23,7 @@ pub(crate) trait Follower: Send + Sync {
 pub(crate) struct Shared {
     inner: Mutex<Inner>,
     /// Whose it is. Where this is another process all else stays as it is: locks may have been held at the fork.
-    owner: Owner,
+    owner: OfProcess,
     /// How many calls failed since it is that of another process.
     foreign_calls: AtomicU64,
     followers: Mutex<Vec<Weak<dyn Follower>>>,
@@ -64,7 +64,7 @@ impl Shared {
     pub fn new(handle: Handle, process: Process) -> Self {
         Self {
             inner: Mutex::new(Inner { handle, failures: Failures::default(), seen: Lost::default() }),
-            owner: Owner::new(process),
+            owner: OfProcess::new(process),
             foreign_calls: AtomicU64::new(0),
             followers: Mutex::default(),
             ends: AtomicU64::new(0),

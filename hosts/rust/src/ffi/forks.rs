@@ -25,9 +25,9 @@ pub struct Process(u32);
 
 /// The process that a thing is of, which one that was made by a fork may become.
 #[derive(Debug)]
-pub struct Owner(AtomicU32);
+pub struct OfProcess(AtomicU32);
 
-impl Owner {
+impl OfProcess {
     pub fn new(process: Process) -> Self {
         Self(AtomicU32::new(process.0))
     }

@@ -11,7 +11,7 @@ mod span_calls;
 mod tests;
 mod version;
 
-pub use forks::{Owner, Process};
+pub use forks::{OfProcess, Process};
 pub use handle::Handle;
 pub use span_calls::{ParentOf, SpanStart};
 
