@@ -2,11 +2,11 @@
 //! The layer.
 
 use crate::fields::Fields;
+use crate::open_spans::OpenSpans;
 use crate::slot::Slot;
 use otel_proved::{current_span, Attribute, Span, Status, Tracer};
-use std::collections::HashMap;
 use std::panic::{self, AssertUnwindSafe};
-use std::sync::{Arc, Mutex, MutexGuard, PoisonError};
+use std::sync::Arc;
 use tracing::span::{self, Id};
 use tracing::{Event, Level, Metadata, Subscriber};
 use tracing_subscriber::layer::{Context, Layer};
@@ -16,21 +16,16 @@ use tracing_subscriber::registry::{LookupSpan, SpanRef};
 #[derive(Debug)]
 pub struct ProvedLayer {
     tracer: Tracer,
-    /// The spans that are open.
-    slots: Mutex<HashMap<u64, Arc<Slot>>>,
+    open_spans: OpenSpans,
 }
 
 impl ProvedLayer {
     pub fn new(tracer: Tracer) -> Self {
-        Self { tracer, slots: Mutex::default() }
-    }
-
-    fn slots(&self) -> MutexGuard<'_, HashMap<u64, Arc<Slot>>> {
-        self.slots.lock().unwrap_or_else(PoisonError::into_inner)
+        Self { tracer, open_spans: OpenSpans::default() }
     }
 
     pub(crate) fn slot(&self, id: &Id) -> Option<Arc<Slot>> {
-        self.slots().get(&id.into_u64()).map(Arc::clone)
+        self.open_spans.here().get(id)
     }
 
     /// A span, which has started then.
@@ -61,7 +56,7 @@ impl ProvedLayer {
         if is_below_current {
             slot.started(&self.tracer, true);
         }
-        self.slots().insert(id.into_u64(), slot);
+        self.open_spans.here().insert(id, slot);
     }
 
     fn event<S>(&self, event: &Event<'_>, context: &Context<'_, S>)
@@ -93,7 +88,7 @@ impl ProvedLayer {
     }
 
     fn end(&self, id: &Id) {
-        let slot = self.slots().remove(&id.into_u64());
+        let slot = self.open_spans.here().remove(id);
         // It ends as it is dropped, where no thread tells it something at this moment.
         drop(slot.map(|it| it.started(&self.tracer, false)));
     }

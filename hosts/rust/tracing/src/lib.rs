@@ -33,6 +33,8 @@
 //! - An event is one of its span, named by its message; those outside of spans are left to other layers. One of the
 //!   level `ERROR` makes the span's status an error. A field that is a `dyn Error` is recorded as an exception too.
 //! - `follows_from` is a link, where both spans are open.
+//! - In a process made by a fork the spans that are open are the parent's; spans there are traced after
+//!   [`Pipeline::after_fork`](otel_proved::Pipeline::after_fork).
 //! - No call of the layer panics: a value whose text cannot be made, since its `Debug` panics, says so in its place.
 #![deny(unsafe_code)]
 #![warn(missing_debug_implementations)]
@@ -40,6 +42,7 @@
 mod fields;
 mod headers;
 mod layer;
+mod open_spans;
 mod slot;
 
 pub use headers::SpanHeaders;
