@@ -157,7 +157,7 @@ fn a_child_hangs_nowhere() {
         Some(HttpSender::start(&pipeline, endpoint, Limits { closing_limit: LONG / 100, ..limits }).unwrap());
     pipeline.on_notice(|_| ());
     let (tracer, is_over) = (&tracer, &AtomicBool::new(false));
-    thread::scope(|scope| {
+    let held = thread::scope(|scope| {
         for _thread in 0..4 {
             // Threads that hold the lock at nearly every moment.
             scope.spawn(|| {
@@ -166,9 +166,9 @@ fn a_child_hangs_nowhere() {
                 }
             });
         }
-        for _round in 0..20 {
+        let held = (0..20).all(|_| {
             let (of_child, other) = (&mut sender, pipeline.clone());
-            assert!(holds_in_child(move || {
+            holds_in_child(move || {
                 tracer.span("child").start().end();
                 // It goes on, or another thread was in the middle of a call.
                 let gone_on = other.after_fork();
@@ -179,9 +179,11 @@ fn a_child_hangs_nowhere() {
                     drop((sender, other));
                     true
                 }
-            }));
-        }
+            })
+        });
         is_over.store(true, Ordering::Relaxed);
+        held
     });
+    assert!(held);
     sender.take().unwrap().close();
 }

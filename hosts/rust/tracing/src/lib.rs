@@ -34,7 +34,8 @@
 //!   level `ERROR` makes the span's status an error. A field that is a `dyn Error` is recorded as an exception too.
 //! - `follows_from` is a link, where both spans are open.
 //! - In a process made by a fork the spans that are open are the parent's; spans there are traced after
-//!   [`Pipeline::after_fork`](otel_proved::Pipeline::after_fork).
+//!   [`Pipeline::after_fork`](otel_proved::Pipeline::after_fork). `tracing` itself takes locks at the first call of a
+//!   thread or a place in the sources, and a fork that meets one leaves it held.
 //! - No call of the layer panics: a value whose text cannot be made, since its `Debug` panics, says so in its place.
 #![deny(unsafe_code)]
 #![warn(missing_debug_implementations)]

@@ -7,6 +7,7 @@ use std::ffi::c_int;
 use std::panic::{self, AssertUnwindSafe};
 use std::ptr::null_mut;
 use std::sync::atomic::{AtomicBool, Ordering};
+use std::sync::Barrier;
 use std::thread;
 use std::time::{Duration, Instant};
 use tracing::{dispatcher, info, info_span, Dispatch};
@@ -77,30 +78,37 @@ fn a_child_traces_its_own_spans() {
     assert!(lines.contains("of the parent") && !lines.contains("of the child"));
 }
 
+fn trace(dispatch: &Dispatch) {
+    dispatcher::with_default(dispatch, || info_span!("busy").in_scope(|| info!("event")));
+}
+
 #[test]
 fn a_child_hangs_nowhere() {
     let (pipeline, dispatch) = opened();
     pipeline.on_notice(|_| ());
-    let is_over = &AtomicBool::new(false);
-    thread::scope(|scope| {
+    // The first calls of a thread, and of a place in the sources, take locks of `tracing` that a fork may not meet.
+    let (is_over, have_begun, dispatch) = (&AtomicBool::new(false), &Barrier::new(5), &dispatch);
+    trace(dispatch);
+    let child_holds = || {
+        trace(dispatch);
+        let gone_on = pipeline.after_fork();
+        trace(dispatch);
+        gone_on == Err(Error::OtherProcess) || gone_on.is_ok() && pipeline.flush().is_ok()
+    };
+    let held = thread::scope(|scope| {
         for _thread in 0..4 {
-            let dispatch = &dispatch;
             scope.spawn(move || {
-                dispatcher::with_default(dispatch, || {
-                    while !is_over.load(Ordering::Relaxed) {
-                        info_span!("busy").in_scope(|| info!("event"));
-                    }
-                });
+                trace(dispatch);
+                have_begun.wait();
+                while !is_over.load(Ordering::Relaxed) {
+                    trace(dispatch);
+                }
             });
         }
-        for _round in 0..20 {
-            assert!(holds_in_child(|| {
-                dispatcher::with_default(&dispatch, || info_span!("refused").in_scope(|| info!("event")));
-                let gone_on = pipeline.after_fork();
-                dispatcher::with_default(&dispatch, || info_span!("child").in_scope(|| info!("event")));
-                gone_on == Err(Error::OtherProcess) || gone_on.is_ok() && pipeline.flush().is_ok()
-            }));
-        }
+        have_begun.wait();
+        let held = (0..20).all(|_| holds_in_child(child_holds));
         is_over.store(true, Ordering::Relaxed);
+        held
     });
+    assert!(held);
 }
