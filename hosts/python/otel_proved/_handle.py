@@ -20,7 +20,7 @@ from ._values import Encoded, text
 from .errors import OtelError, OtherProcess
 
 NO_SPAN = 0
-# What most answers fit into, in bytes, and what some lines do.
+# What most answers fit into, in bytes, and what some lines do: the most room that is made without need.
 _ROOM, _ROOM_OF_LINES = 512, 2**18
 _ENDS_TO_WAKE = 256
 
@@ -219,7 +219,7 @@ class Handle:
             if status != _native.BUFFER_TOO_SMALL:
                 _native.check(name, status)
                 # The next answer is seldom twice as long; where it is, the library writes it a second time.
-                self._rooms[name] = max(least, 2 * length.value)
+                self._rooms[name] = min(max(least, 2 * length.value), _ROOM_OF_LINES)
                 return ctypes.string_at(room, length.value)
             wanted = length.value
 
