@@ -23,8 +23,13 @@ namespace otel {
 /* Takes a notice: a line without its end. */
 using Notice = std::function<void(const std::string &)>;
 
-/* The version of this package, which pkg-config and CMake are told too. */
-inline constexpr std::string_view VERSION = "0.1.0";
+#define OTEL_DIGITS(number) #number
+#define OTEL_DIGITS_OF(number) OTEL_DIGITS(number)
+/* The version of this package, which is that of otel.h. */
+inline constexpr std::string_view VERSION =
+    OTEL_DIGITS_OF(OTEL_VERSION_MAJOR) "." OTEL_DIGITS_OF(OTEL_VERSION_MINOR) "." OTEL_DIGITS_OF(OTEL_VERSION_PATCH);
+#undef OTEL_DIGITS_OF
+#undef OTEL_DIGITS
 
 namespace detail {
 
