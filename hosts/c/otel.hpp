@@ -2,9 +2,9 @@
 /* OpenTelemetry's trace pipeline, proved, for C++17: the calls of otel.h, whose comments say what each does, with
    pipelines and spans that end themselves.
 
-   Calls of a span throw nothing: what fails is counted by Pipeline::failed_calls, and Pipeline::last_failure says why.
-   Calls of a pipeline throw otel::Error, and then have changed nothing. What builds the arguments of a call is the
-   caller's, and may throw for want of memory.
+   Calls of a span, and those that start one, throw nothing: what fails is counted by Pipeline::failed_calls, and
+   Pipeline::last_failure says why. Other calls of a pipeline throw otel::Error, and then have changed nothing. What
+   builds the arguments of a call is the caller's, and may throw for want of memory.
 
    Threads may share a pipeline and its spans: each call takes the pipeline's lock. To move a span or a pipeline, or to
    destroy it, is for one thread alone. No handler of a signal may call them. After a fork all pipelines are the
@@ -12,7 +12,7 @@
 #ifndef OTEL_HPP
 #define OTEL_HPP
 
-#include "otel_span.hpp"
+#include "otel_scope.hpp"
 
 #include <random>
 
@@ -31,18 +31,20 @@ inline std::uint64_t random_seed() {
    A notice is a line of text, about the first spans that were dropped, the first batch that was not exported, and what
    was lost at the end; of each there is at most one a minute. It goes to standard error, or to what on_notice() is
    given. */
-class Pipeline {
+class Pipeline : public Starter {
 public:
   explicit Pipeline(std::string_view settings, std::uint64_t seed = random_seed())
-      : shared_(std::make_shared<detail::Shared>()) {
+      : Pipeline(std::make_shared<detail::Owned>()) {
     std::string lines = detail::with_sdk(settings);
+    detail::must_be_of_this_version();
     must("otel_open", [&](otel_handle *handle) { return otel_open(handle, detail::bytes(lines), lines.size(), seed); });
   }
   Pipeline(Pipeline &&) noexcept = default;
   Pipeline &operator=(Pipeline &&other) noexcept {
     if (this != &other) {
       leave();
-      shared_ = std::move(other.shared_);
+      Starter::operator=(std::move(other));
+      owned_ = std::move(other.owned_);
     }
     return *this;
   }
@@ -50,53 +52,17 @@ public:
 
   /* The names of the settings that were ignored. */
   std::vector<std::string> ignored_settings() const {
-    std::string lines = written("otel_ignored_settings", otel_ignored_settings);
-    std::vector<std::string> names;
-    for (std::size_t begin = 0, end; begin < lines.size(); begin = end + 1) {
-      end = lines.find('\n', begin);
-      names.push_back(lines.substr(begin, end - begin));
-    }
-    return names;
-  }
-
-  Tracer tracer(std::string_view name, std::string_view version = {}, std::string_view schema_url = {}) {
-    Tracer tracer;
-    must("otel_tracer", [&](otel_handle *handle) {
-      return otel_tracer(handle, detail::bytes(name), name.size(), detail::bytes(version), version.size(),
-                         detail::bytes(schema_url), schema_url.size(), &tracer.number);
+    std::string lines;
+    must("otel_ignored_settings", [&](otel_handle *handle) -> std::uint32_t {
+      lines = detail::written("otel_ignored_settings",
+                              [&](auto... buffer) { return otel_ignored_settings(handle, buffer...); });
+      return OTEL_OK;
     });
-    return tracer;
+    return detail::lines_of(lines);
   }
-
-  /* A root. */
-  Span start(std::string_view name, const Start &start = {}) {
-    return started(
-        "otel_start",
-        [&](otel_handle *handle, std::uint64_t moment, std::uint64_t *key) {
-          return detail::start_here(handle, 0, {name, start, moment}, key);
-        },
-        start.moment);
-  }
-  /* A child of the span of another process, which the headers name; without a valid traceparent a root. */
-  Span start_remote(const Headers &headers, std::string_view name, const Start &start = {}) {
-    detail::Remote remote(headers);
-    Span span = started(
-        "otel_start_remote",
-        [&](otel_handle *handle, std::uint64_t moment, std::uint64_t *key) {
-          return detail::start_remote(handle, remote.view(), {name, start, moment}, key);
-        },
-        start.moment);
-    span.pass_on_if_nobody(std::move(remote));
-    return span;
-  }
-
-  /* How many calls of spans failed, which throw nothing. */
-  std::uint64_t failed_calls() const noexcept { return shared_ == nullptr ? 0 : shared_->failed_calls(); }
-  /* Why the last of them failed. */
-  std::optional<Error> last_failure() const { return shared_ == nullptr ? std::nullopt : shared_->last_failure(); }
 
   /* Has notices go there, from any thread that is in a call of the pipeline; without a function to standard error. */
-  void on_notice(Notice notice) { shared().on_notice(std::move(notice)); }
+  void on_notice(Notice notice) { owned().on_notice(std::move(notice)); }
 
   void flush() { look_after("otel_flush", otel_flush); }
   /* Exports what is due, by a clock that never goes back: not that of the spans' moments, which is set now and then. */
@@ -105,36 +71,36 @@ public:
     std::uint64_t when = static_cast<std::uint64_t>(std::max<decltype(count)>(count, 0));
     look_after("otel_run", [when](otel_handle *handle) { return otel_run(handle, when); });
   }
-  std::string drain() { return written("otel_drain", otel_drain); }
+  /* All lines that were exported. Where memory runs out on the way it hands out those before; the next call has the
+     others. */
+  std::string drain() {
+    std::string lines;
+    must("otel_drain_some", [&](otel_handle *handle) { return detail::drain(handle, lines); });
+    return lines;
+  }
   Numbers count() const {
     Numbers numbers;
-    must("otel_count", [&](otel_handle *handle) { return otel_count(handle, &numbers); });
+    must("otel_count", [&](otel_handle *handle) { return otel_count(handle, &numbers, sizeof numbers); });
     return numbers;
   }
   void shutdown() {
-    shared().is_shut_down = true;
+    owned().is_shut_down = true;
     look_after("otel_shutdown", otel_shutdown);
   }
-  void close() { detail::must("otel_close", shared().close()); }
+  void close() { detail::must("otel_close", owned().close()); }
 
 private:
-  detail::Shared &shared() const {
-    return shared_ == nullptr ? throw Error("a pipeline that was moved away", OTEL_CLOSED) : *shared_;
+  explicit Pipeline(std::shared_ptr<detail::Owned> owned) noexcept : Starter(owned), owned_(std::move(owned)) {}
+
+  detail::Owned &owned() const {
+    shared();
+    return *owned_;
   }
 
   template <typename Calls> void must(const char *name, Calls calls) const { shared().must(name, calls); }
 
-  template <typename Write> std::string written(const char *name, Write write) const {
-    std::string found;
-    must(name, [&](otel_handle *handle) -> std::uint32_t {
-      found = detail::written(name, [&](auto... buffer) { return write(handle, buffer...); });
-      return OTEL_OK;
-    });
-    return found;
-  }
-
   template <typename Calls> void look_after(const char *name, Calls calls) {
-    detail::Shared &it = shared();
+    detail::Owned &it = owned();
     try {
       it.must(name, calls);
     } catch (const Error &) {
@@ -144,21 +110,13 @@ private:
     it.look();
   }
 
-  template <typename Begin> Span started(const char *name, Begin begin, Moment moment) {
-    std::uint64_t when = detail::nanoseconds(moment);
-    Span span(shared_);
-    must(name, [&](otel_handle *handle) { return begin(handle, when, &span.key_); });
-    span.standing_ = Span::Standing::open;
-    return span;
-  }
-
   void leave() noexcept {
-    if (shared_ != nullptr) {
-      shared_->close();
+    if (owned_ != nullptr) {
+      owned_->close();
     }
   }
 
-  detail::SharedHandle shared_;
+  std::shared_ptr<detail::Owned> owned_;
 };
 
 } // namespace otel

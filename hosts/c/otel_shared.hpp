@@ -55,16 +55,6 @@ inline std::string with_sdk(std::string_view settings) {
 /* What a notice may be about; of each there is at most one a minute. */
 enum class About { drops, batches, end };
 
-/* How many spans lines have: each has this member once, and nothing else does. */
-inline std::uint64_t spans_in(std::string_view lines) noexcept {
-  constexpr std::string_view member = "\"startTimeUnixNano\":";
-  std::uint64_t count = 0;
-  for (std::size_t at = lines.find(member); at != lines.npos; at = lines.find(member, at + member.size())) {
-    count++;
-  }
-  return count;
-}
-
 /* Says what matters, and not often. */
 class Notices {
 public:
@@ -110,37 +100,32 @@ inline std::atomic<unsigned> forks{0};
 inline const bool hears_of_forks = pthread_atfork(nullptr, nullptr, [] { forks++; }) == 0;
 #endif
 
-/* In a process made by a fork since, all here is the parent's and stays as it is: locks may have been held then. Calls
-   are refused as on a pipeline that is closed. */
+/* A handle behind a lock, and how many calls on it failed. */
 class Shared {
 public:
   Shared() = default;
   Shared(const Shared &) = delete;
   Shared &operator=(const Shared &) = delete;
-  ~Shared() {
-    if (!is_foreign()) {
-      otel_close(&handle_);
-    }
-  }
+  virtual ~Shared() = default;
 
   /* Makes calls that no other thread comes between. They answer a status, which is thrown where it is an error. */
   template <typename Calls> void must(const char *name, Calls calls) {
-    if (is_foreign()) {
+    Held held(*this);
+    if (held.handle == nullptr) {
       throw Error(FOREIGN, OTEL_CLOSED);
     }
-    std::lock_guard<std::mutex> lock(mutex_);
-    detail::must(name, calls(&handle_));
+    detail::must(name, calls(held.handle));
   }
 
   /* The same, but an error is counted. */
   template <typename Calls> void attempt(const char *name, Calls calls) noexcept {
-    if (is_foreign()) {
-      foreign_calls_++;
-      return;
-    }
     try {
-      std::lock_guard<std::mutex> lock(mutex_);
-      note(name, status_of(calls));
+      Held held(*this);
+      if (held.handle == nullptr) {
+        foreign_calls_++;
+      } else {
+        note(name, status_of(held.handle, calls));
+      }
     } catch (...) { /* a mutex that the system cannot lock */
     }
   }
@@ -155,103 +140,46 @@ public:
     return found.value_or(0);
   }
 
-  std::uint64_t failed_calls() noexcept {
-    if (is_foreign()) {
-      return foreign_calls_;
-    }
-    std::lock_guard<std::mutex> lock(mutex_);
-    return failed_calls_;
+  std::uint64_t failed_calls() {
+    Held held(*this);
+    return held.handle == nullptr ? foreign_calls_.load() : failed_calls_;
   }
 
   std::optional<Error> last_failure() {
-    if (is_foreign()) {
+    Held held(*this);
+    if (held.handle == nullptr) {
       return foreign_calls_ == 0 ? std::nullopt : std::optional<Error>(Error(FOREIGN, OTEL_CLOSED));
     }
-    std::lock_guard<std::mutex> lock(mutex_);
     return failed_calls_ == 0 ? std::nullopt : std::optional<Error>(Error(last_name_, last_status_));
-  }
-
-  /* Says so where spans were dropped, refused or not exported since it looked last. */
-  void look() noexcept {
-    if (is_foreign()) {
-      return;
-    }
-    otel_numbers numbers{};
-    std::uint64_t dropped = 0, batches = 0;
-    attempt("otel_count", [&](otel_handle *handle) -> std::uint32_t {
-      if (otel_count(handle, &numbers) == OTEL_OK) {
-        std::uint64_t lost = numbers.dropped_spans + numbers.refused_spans;
-        dropped = lost > seen_drops_ ? lost : 0;
-        batches = numbers.lost_batches > seen_batches_ ? numbers.lost_batches : 0;
-        seen_drops_ = lost;
-        seen_batches_ = numbers.lost_batches;
-      }
-      return OTEL_OK;
-    });
-    if (dropped > 0) {
-      notices_.say(About::drops, "spans that are lost, since the queue was full or memory ran out", dropped);
-    }
-    if (batches > 0) {
-      notices_.say(About::batches, "batches of spans that were not exported, and are lost", batches);
-    }
-  }
-
-  /* Closes the handle, and says what is lost with it. */
-  std::uint32_t close() noexcept {
-    std::uint32_t status = OTEL_CLOSED;
-    std::uint64_t lost = 0;
-    if (is_foreign()) {
-      return status;
-    }
-    attempt("otel_shutdown", [](otel_handle *handle) -> std::uint32_t {
-      otel_shutdown(handle); /* an error says that it was shut down or closed before, or what look() finds */
-      return OTEL_OK;
-    });
-    look();
-    attempt("otel_close", [&](otel_handle *handle) -> std::uint32_t {
-      otel_numbers numbers{};
-      otel_count(handle, &numbers);
-      lost = numbers.open_spans + numbers.waiting_spans + undrained_spans(handle);
-      status = otel_close(handle);
-      return OTEL_OK;
-    });
-    if (lost > 0) {
-      notices_.say(About::end, "spans that were open or not drained at the end, and are lost", lost);
-    }
-    return status;
   }
 
   /* Whether nobody is started any more. */
   std::atomic<bool> is_shut_down{false};
 
-  void on_notice(Notice notice) {
-    if (!is_foreign()) {
-      notices_.set(std::move(notice));
-    }
-  }
+protected:
+  /* Takes the lock, and answers the handle; null, without the lock, where that is another process's. */
+  virtual otel_handle *lock() = 0;
+  virtual void unlock() noexcept = 0;
 
 private:
   static constexpr const char *FOREIGN = "a call on the pipeline of another process";
 
-  bool is_foreign() const noexcept { return forks_ != forks; }
-
-  /* How many spans are in the lines that nobody drained; where there is no memory to look, as many as are sure. */
-  static std::uint64_t undrained_spans(otel_handle *handle) noexcept {
-    std::uint64_t count = 0;
-    try {
-      written("otel_drain", [handle, &count](std::uint8_t *buffer, std::size_t room, std::size_t *length) {
-        std::uint32_t status = otel_drain(handle, buffer, room, length);
-        count = status == OTEL_OK ? spans_in({reinterpret_cast<char *>(buffer), *length}) : *length > 0;
-        return status;
-      });
-    } catch (...) {
+  /* The lock, as long as this is there. */
+  struct Held {
+    explicit Held(Shared &of) : shared(of), handle(of.lock()) {}
+    Held(const Held &) = delete;
+    ~Held() {
+      if (handle != nullptr) {
+        shared.unlock();
+      }
     }
-    return count;
-  }
+    Shared &shared;
+    otel_handle *handle;
+  };
 
-  template <typename Calls> std::uint32_t status_of(Calls &calls) noexcept {
+  template <typename Calls> static std::uint32_t status_of(otel_handle *handle, Calls &calls) noexcept {
     try {
-      return calls(&handle_);
+      return calls(handle);
     } catch (const Error &error) {
       return error.status();
     } catch (const std::bad_alloc &) {
@@ -269,16 +197,106 @@ private:
     }
   }
 
-  const unsigned forks_ = forks;
   std::atomic<std::uint64_t> foreign_calls_{0};
-  Notices notices_;
-  std::mutex mutex_;
-  otel_handle handle_{};
   std::uint64_t failed_calls_ = 0;
   const char *last_name_ = "";
   std::uint32_t last_status_ = OTEL_OK;
-  std::uint64_t seen_drops_ = 0, seen_batches_ = 0;
 };
+
+/* A handle of its own. In a process made by a fork since, all here is the parent's and stays as it is: locks may have
+   been held then. Calls are refused as on a pipeline that is closed. */
+class Owned : public Shared {
+public:
+  ~Owned() override {
+    if (!is_foreign()) {
+      otel_close(&handle_);
+    }
+  }
+
+  /* Says so where spans were dropped, refused or not exported since it looked last. */
+  void look() noexcept {
+    std::uint64_t dropped = 0, unkept = 0;
+    if (is_foreign()) {
+      return;
+    }
+    attempt("otel_count", [&](otel_handle *handle) -> std::uint32_t {
+      otel_numbers numbers{};
+      if (otel_count(handle, &numbers, sizeof numbers) == OTEL_OK) {
+        std::uint64_t lost = numbers.dropped_spans + numbers.refused_spans;
+        dropped = lost > seen_drops_ ? lost : 0;
+        unkept = numbers.lost_spans > seen_unkept_ ? numbers.lost_spans : 0;
+        seen_drops_ = lost;
+        seen_unkept_ = numbers.lost_spans;
+      }
+      return OTEL_OK;
+    });
+    if (dropped > 0) {
+      notices_.say(About::drops, "spans that are lost, since the queue was full or memory ran out", dropped);
+    }
+    if (unkept > 0) {
+      notices_.say(About::batches, "spans of batches that were not exported, and are lost", unkept);
+    }
+  }
+
+  /* Closes the handle, and says what is lost with it. */
+  std::uint32_t close() noexcept {
+    std::uint32_t status = OTEL_CLOSED;
+    std::uint64_t lost = 0;
+    if (is_foreign()) {
+      return status;
+    }
+    attempt("otel_shutdown", [](otel_handle *handle) -> std::uint32_t {
+      otel_shutdown(handle); /* an error says that it was shut down or closed before, or what look() finds */
+      return OTEL_OK;
+    });
+    look();
+    attempt("otel_close", [&](otel_handle *handle) -> std::uint32_t {
+      otel_numbers numbers{};
+      otel_count(handle, &numbers, sizeof numbers);
+      lost = numbers.open_spans + numbers.waiting_spans + numbers.undrained_spans;
+      status = otel_close(handle);
+      return OTEL_OK;
+    });
+    if (lost > 0) {
+      notices_.say(About::end, "spans that were open or not drained at the end, and are lost", lost);
+    }
+    return status;
+  }
+
+  void on_notice(Notice notice) {
+    if (!is_foreign()) {
+      notices_.set(std::move(notice));
+    }
+  }
+
+protected:
+  otel_handle *lock() override {
+    if (is_foreign()) {
+      return nullptr;
+    }
+    mutex_.lock();
+    return &handle_;
+  }
+  void unlock() noexcept override { mutex_.unlock(); }
+
+private:
+  bool is_foreign() const noexcept { return forks_ != forks; }
+
+  const unsigned forks_ = forks;
+  Notices notices_;
+  std::mutex mutex_;
+  otel_handle handle_{};
+  std::uint64_t seen_drops_ = 0, seen_unkept_ = 0;
+};
+
+/* Throws where the library is of another major or minor version than the headers. */
+inline void must_be_of_this_version() {
+  std::uint32_t major = 0, minor = 0, patch = 0;
+  must("otel_version", otel_version(&major, &minor, &patch));
+  if (major != OTEL_VERSION_MAJOR || minor != OTEL_VERSION_MINOR) {
+    throw Error::of_version(std::to_string(major) + "." + std::to_string(minor) + "." + std::to_string(patch), VERSION);
+  }
+}
 
 using SharedHandle = std::shared_ptr<Shared>;
 

@@ -23,27 +23,26 @@ struct Beginning {
 inline std::uint32_t start_here(otel_handle *handle, std::uint64_t parent, const Beginning &beginning,
                                 std::uint64_t *key) {
   const auto &[name, start, moment] = beginning;
-  std::uint32_t status = gather(handle, start.attributes);
-  return status != OTEL_OK ? status
-                           : otel_start(handle, start.tracer.number, parent, static_cast<std::uint32_t>(start.kind),
-                                        bytes(name), name.size(), moment, key);
+  Handed handed(start.attributes);
+  return otel_start_with(handle, start.tracer.number, parent, static_cast<std::uint32_t>(start.kind), bytes(name),
+                         name.size(), moment, handed.data(), handed.size(), key);
 }
 
 inline std::uint32_t start_remote(otel_handle *handle, const RemoteView &remote, const Beginning &beginning,
                                   std::uint64_t *key) {
   const auto &[name, start, moment] = beginning;
   const auto &[parent, state, baggage] = remote;
-  std::uint32_t status = gather(handle, start.attributes);
-  return status != OTEL_OK
-             ? status
-             : otel_start_remote(handle, start.tracer.number, bytes(parent), parent.size(), bytes(state), state.size(),
-                                 bytes(baggage), baggage.size(), static_cast<std::uint32_t>(start.kind), bytes(name),
-                                 name.size(), moment, key);
+  Handed handed(start.attributes);
+  return otel_start_remote_with(handle, start.tracer.number, bytes(parent), parent.size(), bytes(state), state.size(),
+                                bytes(baggage), baggage.size(), static_cast<std::uint32_t>(start.kind), bytes(name),
+                                name.size(), moment, handed.data(), handed.size(), key);
 }
 
-inline std::uint32_t link_remote(otel_handle *handle, std::uint64_t key, const RemoteView &remote) {
+inline std::uint32_t link_remote(otel_handle *handle, std::uint64_t key, const RemoteView &remote,
+                                 const Handed &handed) {
   const auto &[parent, state, baggage] = remote;
-  return otel_add_remote_link(handle, key, bytes(parent), parent.size(), bytes(state), state.size());
+  return otel_add_remote_link_with(handle, key, bytes(parent), parent.size(), bytes(state), state.size(), handed.data(),
+                                   handed.size());
 }
 
 /* Who a span was, for its children after its end. */
@@ -140,26 +139,18 @@ public:
   /* A child, also of a span that has ended. */
   Span child(std::string_view name, const Start &start = {}) const noexcept {
     Span span(shared_);
-    std::uint64_t moment = shared_ == nullptr ? 0 : shared_->near(start.moment);
-    attempt("otel_start", [&](otel_handle *handle) -> std::uint32_t {
-      detail::Beginning beginning{name, start, moment};
-      std::uint32_t status = standing_ == Standing::open
-                                 ? detail::start_here(handle, key_, beginning, &span.key_)
-                                 : detail::start_remote(handle, kept_.view(), beginning, &span.key_);
-      if (status == OTEL_OK && !is_nobody(handle, span.key_)) {
-        span.standing_ = Standing::open;
-        return status;
-      }
-      if (status == OTEL_OK) {
-        otel_abandon(handle, span.key_);
-      }
+    auto starts = [this](otel_handle *handle, const detail::Beginning &beginning, std::uint64_t *key) {
+      return standing_ == Standing::open ? detail::start_here(handle, key_, beginning, key)
+                                         : detail::start_remote(handle, kept_.view(), beginning, key);
+    };
+    auto stands_for_parent = [this, &span](otel_handle *handle) {
       if (standing_ == Standing::open) {
         span.kept_.keep(handle, key_);
       } else {
         span.kept_ = kept_;
       }
-      return status;
-    });
+    };
+    span.begin("otel_start", {name, start, 0}, starts, stands_for_parent);
     return span;
   }
 
@@ -167,8 +158,8 @@ public:
   void set(std::string_view key, Value &&value) noexcept {
     edit("otel_set_attributes", [&](otel_handle *handle) {
       Attribute attribute(key, std::forward<Value>(value));
-      std::uint32_t status = detail::gather(handle, &attribute, 1);
-      return status != OTEL_OK ? status : otel_set_attributes(handle, key_);
+      detail::Handed handed(&attribute, 1);
+      return otel_set_attributes_with(handle, key_, handed.data(), handed.size());
     });
   }
   /* A list in braces, of items of one type. */
@@ -177,14 +168,15 @@ public:
     set<std::initializer_list<Item>>(key, std::move(items));
   }
   void set(const Attributes &attributes) noexcept {
-    edit_with(attributes, "otel_set_attributes",
-              [&](otel_handle *handle) { return otel_set_attributes(handle, key_); });
+    edit_with(attributes, "otel_set_attributes", [&](otel_handle *handle, const detail::Handed &handed) {
+      return otel_set_attributes_with(handle, key_, handed.data(), handed.size());
+    });
   }
 
   void add_event(std::string_view name, const Attributes &attributes = {}, Moment moment = Clock::now()) noexcept {
     std::uint64_t when = near(moment);
-    edit_with(attributes, "otel_add_event", [&](otel_handle *handle) {
-      return otel_add_event(handle, key_, detail::bytes(name), name.size(), when);
+    edit_with(attributes, "otel_add_event", [&](otel_handle *handle, const detail::Handed &handed) {
+      return otel_add_event_with(handle, key_, detail::bytes(name), name.size(), when, handed.data(), handed.size());
     });
   }
 
@@ -202,17 +194,16 @@ public:
     if (linked.shared_ != shared_) {
       return add_link(linked.inject(), attributes);
     }
-    edit_with(attributes, "otel_add_link", [&](otel_handle *handle) {
-      return linked.standing_ == Standing::open ? otel_add_link(handle, key_, linked.key_)
-                                                : detail::link_remote(handle, key_, linked.kept_.view());
+    edit_with(attributes, "otel_add_link", [&](otel_handle *handle, const detail::Handed &handed) {
+      return linked.standing_ == Standing::open
+                 ? otel_add_link_with(handle, key_, linked.key_, handed.data(), handed.size())
+                 : detail::link_remote(handle, key_, linked.kept_.view(), handed);
     });
   }
   void add_link(const Headers &headers, const Attributes &attributes = {}) noexcept {
-    edit("otel_add_remote_link", [&](otel_handle *handle) {
+    edit_with(attributes, "otel_add_remote_link", [&](otel_handle *handle, const detail::Handed &handed) {
       detail::Remote remote(headers);
-      std::uint32_t status = detail::gather(handle, attributes);
-      return status != OTEL_OK ? status
-                               : detail::link_remote(handle, key_, {remote.traceparent, remote.tracestate, {}});
+      return detail::link_remote(handle, key_, remote.view(), handed);
     });
   }
 
@@ -254,7 +245,7 @@ public:
   }
 
 private:
-  friend class Pipeline;
+  friend class Starter;
 
   enum class Standing { unstarted, open, over };
 
@@ -273,19 +264,41 @@ private:
            identity.trace_id_low == 0;
   }
 
-  /* Stands for its parent in another process, where it is nobody. */
-  void pass_on_if_nobody(detail::Remote parent) noexcept {
-    if (!shared_->is_shut_down) {
-      return;
-    }
-    attempt("otel_abandon", [&](otel_handle *handle) -> std::uint32_t {
-      if (!is_nobody(handle, key_)) {
-        return OTEL_OK;
+  /* Starts the span. Where that fails, or it is nobody, it stays unstarted, and something is done instead. */
+  template <typename Starts, typename Instead>
+  void begin(const char *call, detail::Beginning beginning, Starts starts, Instead instead) noexcept {
+    beginning.moment = near(beginning.start.moment);
+    attempt(call, [&](otel_handle *handle) -> std::uint32_t {
+      std::uint32_t status = OTEL_OUT_OF_MEMORY;
+      try {
+        status = starts(handle, beginning, &key_);
+      } catch (const std::bad_alloc &) {
       }
-      standing_ = Standing::unstarted;
-      kept_.pass(std::move(parent));
-      return otel_abandon(handle, key_);
+      if (status == OTEL_OK && !is_nobody(handle, key_)) {
+        standing_ = Standing::open;
+        return status;
+      }
+      if (status == OTEL_OK) {
+        otel_abandon(handle, key_);
+      }
+      instead(handle);
+      return status;
     });
+  }
+  void begin_root(std::string_view name, const Start &start) noexcept {
+    auto starts = [](otel_handle *handle, const detail::Beginning &beginning, std::uint64_t *key) {
+      return detail::start_here(handle, 0, beginning, key);
+    };
+    begin("otel_start", {name, start, 0}, starts, [](otel_handle *) {});
+  }
+  /* Where it cannot start it stands for its parent in another process. */
+  void begin_remote(const Headers &headers, std::string_view name, const Start &start) noexcept {
+    detail::Remote parent;
+    auto starts = [&](otel_handle *handle, const detail::Beginning &beginning, std::uint64_t *key) {
+      parent = detail::Remote(headers);
+      return detail::start_remote(handle, parent.view(), beginning, key);
+    };
+    begin("otel_start_remote", {name, start, 0}, starts, [&](otel_handle *) { kept_.pass(std::move(parent)); });
   }
 
   /* A change of a span that did start; after its end that is a failure. */
@@ -295,10 +308,7 @@ private:
     });
   }
   template <typename Calls> void edit_with(const Attributes &attributes, const char *name, Calls calls) noexcept {
-    edit(name, [&](otel_handle *handle) -> std::uint32_t {
-      std::uint32_t status = detail::gather(handle, attributes);
-      return status != OTEL_OK ? status : calls(handle);
-    });
+    edit(name, [&](otel_handle *handle) { return calls(handle, detail::Handed(attributes)); });
   }
 
   std::uint64_t near(Moment moment) const noexcept { return shared_ == nullptr ? 0 : shared_->near(moment); }

@@ -10,6 +10,8 @@
 #include <cstddef>
 #include <cstdint>
 #include <initializer_list>
+#include <list>
+#include <new>
 #include <optional>
 #include <stdexcept>
 #include <string>
@@ -42,38 +44,20 @@ enum class StatusCode : std::uint32_t { unset = OTEL_STATUS_UNSET, ok = OTEL_STA
 class Error : public std::runtime_error {
 public:
   Error(const char *call, std::uint32_t status)
-      : std::runtime_error(std::string(call) + ": " + reason(status)), status_(status) {}
+      : std::runtime_error(std::string(call) + ": " + otel_status_text(status)), status_(status) {}
 
   std::uint32_t status() const noexcept { return status_; }
 
-  static const char *reason(std::uint32_t status) noexcept {
-    switch (status) {
-    case OTEL_OK:
-      return "ok";
-    case OTEL_CLOSED:
-      return "the pipeline is closed";
-    case OTEL_ALREADY_OPEN:
-      return "the pipeline is open already";
-    case OTEL_OUT_OF_MEMORY:
-      return "out of memory";
-    case OTEL_NO_SUCH_SPAN:
-      return "no open span has this key";
-    case OTEL_NO_SUCH_TRACER:
-      return "no tracer has this number";
-    case OTEL_NOT_UTF8:
-      return "a text is not UTF-8";
-    case OTEL_BAD_ARGUMENT:
-      return "an argument is none of those that the call takes";
-    case OTEL_BUFFER_TOO_SMALL:
-      return "the buffer has too little room";
-    case OTEL_FAILED:
-      return "not all was exported, or the pipeline is shut down";
-    default:
-      return "a status without a name";
-    }
+  /* The library is of another version than the headers. */
+  static Error of_version(std::string_view library, std::string_view headers) {
+    std::string text = "the library otel_c is of version ";
+    text.append(library).append(", which does not go together with otel.hpp of ").append(headers);
+    return Error(std::move(text), OTEL_FAILED);
   }
 
 private:
+  Error(std::string text, std::uint32_t status) : std::runtime_error(std::move(text)), status_(status) {}
+
   std::uint32_t status_;
 };
 
@@ -204,62 +188,64 @@ inline std::uint64_t nanoseconds(Moment moment) {
   return number ? *number : throw Error("a moment before 1970", OTEL_BAD_ARGUMENT);
 }
 
-/* Gathers one attribute. */
-struct Gather {
-  otel_handle *handle;
-  std::string_view key;
+/* Attributes as otel.h takes them, with the memory that lists of texts and of truth values take there. */
+class Handed {
+public:
+  Handed(const Attribute *attributes, std::size_t count) {
+    made_.reserve(count);
+    for (const Attribute *it = attributes; it != attributes + count; it++) {
+      made_.push_back(otel_attribute_of(bytes(it->key()), it->key().size()));
+      std::visit(*this, it->value());
+    }
+  }
+  explicit Handed(const Attributes &attributes) : Handed(attributes.data(), attributes.size()) {}
 
-  std::uint32_t operator()(std::string_view value) const {
-    return otel_with_text(handle, bytes(key), key.size(), bytes(value), value.size());
-  }
-  std::uint32_t operator()(const Attribute::Digits &value) const { return (*this)(std::string_view(value.text)); }
-  std::uint32_t operator()(std::int64_t value) const {
-    return otel_with_integer(handle, bytes(key), key.size(), value);
-  }
-  std::uint32_t operator()(double value) const { return otel_with_float(handle, bytes(key), key.size(), value); }
-  std::uint32_t operator()(bool value) const { return otel_with_bool(handle, bytes(key), key.size(), value); }
-  std::uint32_t operator()(const Attribute::Texts &values) const {
-    std::string together;
-    std::vector<std::uint64_t> lengths;
+  const otel_attribute *data() const noexcept { return items(made_); }
+  std::size_t size() const noexcept { return made_.size(); }
+
+  /* Each sets the value of the last one. */
+  void operator()(std::string_view value) { set_bytes(OTEL_TEXT, value); }
+  void operator()(const Attribute::Digits &value) { set_bytes(OTEL_TEXT, value.text); }
+  void operator()(std::int64_t value) { of_kind(OTEL_INTEGER).integer = value; }
+  void operator()(double value) { of_kind(OTEL_FLOAT).number = value; }
+  void operator()(bool value) { of_kind(OTEL_BOOL).truth = value; }
+  void operator()(const Attribute::Texts &values) {
+    std::string &together = bytes_.emplace_back();
+    std::vector<std::uint64_t> &lengths = lengths_.emplace_back();
     for (std::string_view value : values) {
       together += value;
       lengths.push_back(value.size());
     }
-    return otel_with_texts(handle, bytes(key), key.size(), bytes(together), together.size(), items(lengths),
-                           lengths.size());
+    set_bytes(OTEL_TEXTS, together);
+    made_.back().lengths = items(lengths);
+    made_.back().lengths_count = lengths.size();
   }
-  std::uint32_t operator()(const Attribute::Integers &values) const {
-    return otel_with_integers(handle, bytes(key), key.size(), items(values), values.size());
+  void operator()(const Attribute::Integers &values) {
+    of_kind(OTEL_INTEGERS).integers = items(values);
+    made_.back().integers_count = values.size();
   }
-  std::uint32_t operator()(const Attribute::Floats &values) const {
-    return otel_with_floats(handle, bytes(key), key.size(), items(values), values.size());
+  void operator()(const Attribute::Floats &values) {
+    of_kind(OTEL_FLOATS).numbers = items(values);
+    made_.back().numbers_count = values.size();
   }
-  std::uint32_t operator()(const Attribute::Bools &values) const {
-    std::string numbers(values.begin(), values.end());
-    return otel_with_bools(handle, bytes(key), key.size(), bytes(numbers), numbers.size());
+  void operator()(const Attribute::Bools &values) {
+    set_bytes(OTEL_BOOLS, bytes_.emplace_back(values.begin(), values.end()));
   }
-};
 
-/* Gathers attributes for the next call. Where one is refused, those before it are let go again: an edit of no span
-   takes them. */
-inline std::uint32_t gather(otel_handle *handle, const Attribute *attributes, std::size_t count) {
-  std::uint32_t status = OTEL_OK;
-  try {
-    for (const Attribute *it = attributes; status == OTEL_OK && it != attributes + count; it++) {
-      status = std::visit(Gather{handle, it->key()}, it->value());
-    }
-  } catch (...) {
-    otel_set_attributes(handle, 0);
-    throw;
+private:
+  otel_attribute &of_kind(otel_value_kind kind) {
+    made_.back().kind = kind;
+    return made_.back();
   }
-  if (status != OTEL_OK) {
-    otel_set_attributes(handle, 0);
+  void set_bytes(otel_value_kind kind, std::string_view value) {
+    of_kind(kind).bytes = bytes(value);
+    made_.back().bytes_length = value.size();
   }
-  return status;
-}
-inline std::uint32_t gather(otel_handle *handle, const Attributes &attributes) {
-  return gather(handle, attributes.data(), attributes.size());
-}
+
+  std::vector<otel_attribute> made_;
+  std::list<std::string> bytes_;
+  std::list<std::vector<std::uint64_t>> lengths_;
+};
 
 /* What a call writes into a buffer, which grows to what it needs. */
 template <typename Write> std::string written(const char *call, Write write) {
@@ -273,6 +259,38 @@ template <typename Write> std::string written(const char *call, Write write) {
   must(call, status);
   buffer.resize(length);
   return buffer;
+}
+
+/* Takes all lines out of a pipeline. Where there is no memory for more, those that were taken are handed out. */
+inline std::uint32_t drain(otel_handle *handle, std::string &lines) {
+  std::size_t used = 0, length = 0;
+  std::uint32_t status = OTEL_OK;
+  try {
+    lines.resize(1024);
+    do {
+      status =
+          otel_drain_some(handle, reinterpret_cast<std::uint8_t *>(lines.data()) + used, lines.size() - used, &length);
+      if (status == OTEL_BUFFER_TOO_SMALL) {
+        lines.resize(std::max(used + length, lines.size() * 2));
+      } else if (status == OTEL_OK) {
+        used += length;
+      }
+    } while (status == OTEL_BUFFER_TOO_SMALL || (status == OTEL_OK && length > 0));
+  } catch (const std::bad_alloc &) {
+    status = OTEL_OUT_OF_MEMORY;
+  }
+  lines.resize(std::min(used, lines.size()));
+  return used > 0 ? static_cast<std::uint32_t>(OTEL_OK) : status;
+}
+
+/* The lines of a text, each of which ends in a line feed. */
+inline std::vector<std::string> lines_of(std::string_view text) {
+  std::vector<std::string> lines;
+  for (std::size_t begin = 0, end; begin < text.size(); begin = end + 1) {
+    end = std::min(text.find('\n', begin), text.size());
+    lines.emplace_back(text.substr(begin, end - begin));
+  }
+  return lines;
 }
 
 /* The headers of a name, in whatever case, with commas between them. */

@@ -20,6 +20,10 @@ static_assert(noexcept(std::declval<otel::Span &>().set_status(otel::StatusCode:
 static_assert(noexcept(std::declval<otel::Span &>().update_name("name")));
 static_assert(noexcept(std::declval<otel::Span &>().child("name", std::declval<const otel::Start &>())));
 static_assert(noexcept(std::declval<otel::Span &>().inject()) &&noexcept(std::declval<otel::Span &>().identity()));
+static_assert(noexcept(std::declval<otel::Pipeline &>().start("name", std::declval<const otel::Start &>())));
+static_assert(noexcept(std::declval<otel::Pipeline &>().start_root("name", std::declval<const otel::Start &>())));
+static_assert(noexcept(std::declval<otel::Pipeline &>().start_remote(std::declval<const otel::Headers &>(), "name",
+                                                                     std::declval<const otel::Start &>())));
 static_assert(noexcept(std::declval<otel::Span &>().end()) &&noexcept(std::declval<otel::Span &>().abandon()));
 
 const otel::Headers CALLER{{"traceparent", "00-0af7651916cd43dd8448eb211c80319c-b7ad6b7169203331-01"},

@@ -4,6 +4,7 @@
 #include "hold.hpp"
 
 #include <limits>
+#include <thread>
 
 namespace {
 
@@ -146,21 +147,17 @@ void sizes_and_lists_in_braces_are_values() {
 
 void refusals_leave_nothing() {
   otel::Pipeline pipeline = pipeline_of_a_queue();
-  hold(throws(OTEL_NOT_UTF8,
-              [&] {
-                pipeline.start("bad", {otel::Kind::server, {{"stale", 1}, {"\xff", 2}}});
-              }),
-       "an attribute that is not UTF-8 is refused");
-  hold(throws(OTEL_BAD_ARGUMENT,
-              [&] {
-                pipeline.start("old", {otel::Kind::server, {}, {}, otel::Moment(std::chrono::seconds(-1))});
-              }),
-       "a moment before 1970 is refused");
-  hold(throws(OTEL_NO_SUCH_TRACER,
-              [&] {
-                pipeline.start("none", {otel::Kind::server, {}, {77}});
-              }),
+  otel::Span bad = pipeline.start("bad", {otel::Kind::server, {{"stale", 1}, {"\xff", 2}}});
+  hold(bad.key() == 0 && failed_once(pipeline, OTEL_NOT_UTF8), "an attribute that is not UTF-8 is refused");
+  otel::Span none = pipeline.start("none", {otel::Kind::server, {}, {77}});
+  hold(none.key() == 0 && pipeline.failed_calls() == 2 && pipeline.last_failure()->status() == OTEL_NO_SUCH_TRACER,
        "a tracer that was not given is refused");
+  otel::Span old = pipeline.start("old", {otel::Kind::server, {}, {}, otel::Moment(std::chrono::seconds(-1))});
+  hold(old.key() != 0 && pipeline.failed_calls() == 3 && pipeline.last_failure()->status() == OTEL_BAD_ARGUMENT,
+       "a moment before 1970 is counted, and is now");
+  otel::Headers caller{{"traceparent", "00-0af7651916cd43dd8448eb211c80319c-b7ad6b7169203331-01"}};
+  otel::Span passes = pipeline.start_remote(caller, "\xff");
+  hold(passes.key() == 0 && passes.inject() == caller, "a span that could not start passes the headers on");
   hold(throws(OTEL_NOT_UTF8, [] { otel::Pipeline refused("\xff"); }), "settings that are not UTF-8 are refused");
   pipeline.start("good").end();
   pipeline.flush();
@@ -210,6 +207,55 @@ void resources_name_the_sdk() {
        "the user's word counts");
 }
 
+void threads_have_a_current_span() {
+  otel::Pipeline pipeline = pipeline_of_a_queue(), other("OTEL_SPAN_PROCESSOR=batch", 2);
+  hold(otel::Scope::current() == nullptr, "a thread begins without a current span");
+  {
+    otel::Scope outer(pipeline.start("outer"));
+    outer->set("outer", true);
+    std::uint64_t trace = otel::Scope::current()->identity().trace_id_low;
+    otel::Span child = pipeline.start("child");
+    hold(child.identity().trace_id_low == trace, "a span that starts in a scope is a child of its span");
+    {
+      otel::Scope inner(child);
+      hold(otel::Scope::current() == &child, "the inner scope counts");
+      hold(pipeline.start("below").identity().trace_id_low == trace, "so does a child of a child");
+      hold(other.start("other").identity().trace_id_low != trace, "the current span is that of its pipeline alone");
+      hold(pipeline.start_root("root").identity().trace_id_low != trace, "a root is one in a scope too");
+      std::thread([&] {
+        hold(otel::Scope::current() == nullptr && pipeline.start("elsewhere").identity().trace_id_low != trace,
+             "another thread has no current span");
+      }).join();
+    }
+    hold(otel::Scope::current() != &child && child.key() != 0, "a scope leaves a span open that it was shown");
+  }
+  hold(otel::Scope::current() == nullptr && pipeline.count().open_spans == 0, "a scope ends a span that it was given");
+  auto *first = new otel::Scope(pipeline.start("first"));
+  otel::Scope second(pipeline.start("second"));
+  delete first;
+  hold(otel::Scope::current() != nullptr, "a scope that ends out of turn leaves the others");
+}
+
+void all_is_drained() {
+  otel::Pipeline pipeline("OTEL_SPAN_PROCESSOR=simple", 1);
+  for (int count = 0; count < 500; count++) {
+    pipeline.start("a name that makes lines of some length");
+  }
+  std::string lines = pipeline.drain();
+  hold(std::count(lines.begin(), lines.end(), '\n') == 500, "a drain has all lines");
+  hold(pipeline.count().undrained_spans == 0 && pipeline.drain().empty(), "after a drain there are none");
+}
+
+void what_is_not_drained_is_bounded() {
+  otel::Pipeline pipeline("OTEL_SPAN_PROCESSOR=simple\nOTEL_C_MAX_UNDRAINED_SPANS=3", 1);
+  pipeline.on_notice([](const std::string &) {});
+  for (int count = 0; count < 5; count++) {
+    pipeline.start("one");
+  }
+  otel::Numbers numbers = pipeline.count();
+  hold(numbers.undrained_spans == 3 && numbers.lost_spans == 2, "spans beyond those that are kept are lost");
+}
+
 void pipelines_close() {
   otel::Pipeline pipeline("NO_SUCH_SETTING=1\nOTEL_SPAN_PROCESSOR=batch", otel::random_seed());
   hold(pipeline.ignored_settings() == std::vector<std::string>{"NO_SUCH_SETTING"}, "an ignored setting is named");
@@ -232,6 +278,9 @@ int main() {
   floats_come_as_they_are();
   sizes_and_lists_in_braces_are_values();
   refusals_leave_nothing();
+  threads_have_a_current_span();
+  all_is_drained();
+  what_is_not_drained_is_bounded();
   headers_carry_a_trace();
   resources_name_the_sdk();
   pipelines_close();
