@@ -53,10 +53,8 @@ public:
   /* The names of the settings that were ignored. */
   std::vector<std::string> ignored_settings() const {
     std::string lines;
-    must("otel_ignored_settings", [&](otel_handle *handle) -> std::uint32_t {
-      lines = detail::written("otel_ignored_settings",
-                              [&](auto... buffer) { return otel_ignored_settings(handle, buffer...); });
-      return OTEL_OK;
+    must("otel_ignored_settings", [&](otel_handle *handle) {
+      return detail::written(lines, [&](auto... buffer) { return otel_ignored_settings(handle, buffer...); });
     });
     return detail::lines_of(lines);
   }

@@ -45,41 +45,32 @@ inline std::uint32_t link_remote(otel_handle *handle, std::uint64_t key, const R
                                    handed.size());
 }
 
-/* Who a span was, for its children after its end. */
+/* Who a span is, and what it hands on where it is not open, or not in this process. */
 class Kept {
 public:
   Identity identity{};
 
-  /* Keeps who an open span is. Where there is no memory for its trace state and its baggage they are left out. */
+  /* Keeps what an open span hands on. Where that cannot be had, its trace state and its baggage are left out. */
   std::uint32_t keep(otel_handle *handle, std::uint64_t key) noexcept {
-    std::uint32_t status = otel_identity(handle, key, &identity);
-    if (status != OTEL_OK) {
-      return status;
-    }
-    int length = std::snprintf(traceparent_.data(), traceparent_.size(), "00-%016llx%016llx-%016llx-%02x",
-                               number(identity.trace_id_high), number(identity.trace_id_low), number(identity.span_id),
-                               identity.trace_flags & 0xff);
-    length_ = identity.trace_id_high + identity.trace_id_low == 0 || length < 0 ? 0 : static_cast<std::size_t>(length);
+    std::uint32_t status = OTEL_OK;
     try {
-      headers_ = Remote(headers_of(
-          written("otel_inject", [handle, key](auto... buffer) { return otel_inject(handle, key, buffer...); })));
-      return OTEL_OK;
+      std::string lines;
+      status = written(lines, [handle, key](auto... buffer) { return otel_inject(handle, key, buffer...); });
+      headers_ = Remote(headers_of(lines));
     } catch (...) {
-      headers_ = Remote();
-      return OTEL_OUT_OF_MEMORY;
+      status = OTEL_OUT_OF_MEMORY;
     }
+    if (status != OTEL_OK) {
+      headers_ = Remote();
+    }
+    return status;
   }
 
   /* Keeps what headers say, as they are. */
-  void pass(Remote headers) noexcept {
-    length_ = 0;
-    headers_ = std::move(headers);
-  }
+  void pass(Remote headers) noexcept { headers_ = std::move(headers); }
 
-  RemoteView view() const noexcept {
-    std::string_view own(traceparent_.data(), length_);
-    return {own.empty() ? headers_.traceparent : own, headers_.tracestate, headers_.baggage};
-  }
+  /* Under the lock. */
+  RemoteView view() const noexcept { return {traceparent(), headers_.tracestate, headers_.baggage}; }
 
   Headers headers() const {
     Headers headers;
@@ -96,8 +87,18 @@ public:
 private:
   static unsigned long long number(std::uint64_t id) noexcept { return id; }
 
-  std::array<char, 56> traceparent_{};
-  std::size_t length_ = 0;
+  /* By the identity, which needs no memory, where there is one. */
+  std::string_view traceparent() const noexcept {
+    if ((identity.trace_id_high | identity.trace_id_low) == 0) {
+      return headers_.traceparent;
+    }
+    int length = std::snprintf(traceparent_.data(), traceparent_.size(), "00-%016llx%016llx-%016llx-%02x",
+                               number(identity.trace_id_high), number(identity.trace_id_low), number(identity.span_id),
+                               identity.trace_flags & 0xff);
+    return {traceparent_.data(), static_cast<std::size_t>(std::max(length, 0))};
+  }
+
+  mutable std::array<char, 56> traceparent_{};
   Remote headers_;
 };
 
@@ -123,27 +124,22 @@ public:
   /* The key of a span that is open, or else 0. */
   std::uint64_t key() const noexcept { return standing_ == Standing::open ? key_ : 0; }
 
-  /* Who the span is, also after its end. */
-  Identity identity() const noexcept {
-    Identity identity{};
-    attempt("otel_identity", [&](otel_handle *handle) -> std::uint32_t {
-      if (standing_ == Standing::open) {
-        return otel_identity(handle, key_, &identity);
-      }
-      identity = kept_.identity;
-      return OTEL_OK;
-    });
-    return identity;
-  }
+  /* Who the span is, also after its end; where it could not start, who its parent is. */
+  Identity identity() const noexcept { return kept_.identity; }
 
   /* A child, also of a span that has ended. */
   Span child(std::string_view name, const Start &start = {}) const noexcept {
     Span span(shared_);
     auto starts = [this](otel_handle *handle, const detail::Beginning &beginning, std::uint64_t *key) {
-      return standing_ == Standing::open ? detail::start_here(handle, key_, beginning, key)
-                                         : detail::start_remote(handle, kept_.view(), beginning, key);
+      std::uint32_t status = OTEL_NO_SUCH_SPAN;
+      if (standing_ == Standing::open) {
+        status = detail::start_here(handle, key_, beginning, key);
+      }
+      /* After its end, and in a child process of the one that has it. */
+      return status == OTEL_NO_SUCH_SPAN ? detail::start_remote(handle, kept_.view(), beginning, key) : status;
     };
     auto stands_for_parent = [this, &span](otel_handle *handle) {
+      span.kept_.identity = kept_.identity;
       if (standing_ == Standing::open) {
         span.kept_.keep(handle, key_);
       } else {
@@ -224,11 +220,15 @@ public:
     Headers headers;
     attempt("otel_inject", [&](otel_handle *handle) -> std::uint32_t {
       if (standing_ == Standing::open) {
-        headers = detail::headers_of(
-            detail::written("otel_inject", [&](auto... buffer) { return otel_inject(handle, key_, buffer...); }));
-      } else {
-        headers = kept_.headers();
+        std::string lines;
+        std::uint32_t status =
+            detail::written(lines, [&](auto... buffer) { return otel_inject(handle, key_, buffer...); });
+        if (status != OTEL_NO_SUCH_SPAN) {
+          headers = detail::headers_of(lines);
+          return status;
+        }
       }
+      headers = kept_.headers();
       return OTEL_OK;
     });
     return headers;
@@ -257,11 +257,10 @@ private:
     }
   }
 
-  /* Whether a span that was started is nobody, as after a shutdown. */
-  bool is_nobody(otel_handle *handle, std::uint64_t key) const noexcept {
-    Identity identity{};
-    return shared_->is_shut_down && otel_identity(handle, key, &identity) == OTEL_OK && identity.trace_id_high == 0 &&
-           identity.trace_id_low == 0;
+  /* Whether the span is nobody, as one that starts after a shutdown. */
+  bool is_nobody() const noexcept {
+    const Identity &identity = kept_.identity;
+    return shared_->is_shut_down && (identity.trace_id_high | identity.trace_id_low) == 0;
   }
 
   /* Starts the span. Where that fails, or it is nobody, it stays unstarted, and something is done instead. */
@@ -274,11 +273,15 @@ private:
         status = starts(handle, beginning, &key_);
       } catch (const std::bad_alloc &) {
       }
-      if (status == OTEL_OK && !is_nobody(handle, key_)) {
+      bool is_started = status == OTEL_OK;
+      if (is_started) {
+        status = otel_identity(handle, key_, &kept_.identity);
+      }
+      if (status == OTEL_OK && !is_nobody()) {
         standing_ = Standing::open;
         return status;
       }
-      if (status == OTEL_OK) {
+      if (is_started) {
         otel_abandon(handle, key_);
       }
       instead(handle);

@@ -247,18 +247,17 @@ private:
   std::list<std::vector<std::uint64_t>> lengths_;
 };
 
-/* What a call writes into a buffer, which grows to what it needs. */
-template <typename Write> std::string written(const char *call, Write write) {
-  std::string buffer(1024, '\0');
+/* Has a call write into a text, which grows to what it needs, and is empty where the call fails. */
+template <typename Write> std::uint32_t written(std::string &text, Write write) {
   std::size_t length = 0;
-  std::uint32_t status;
-  while ((status = write(reinterpret_cast<std::uint8_t *>(buffer.data()), buffer.size(), &length)) ==
+  std::uint32_t status = OTEL_OK;
+  text.resize(1024);
+  while ((status = write(reinterpret_cast<std::uint8_t *>(text.data()), text.size(), &length)) ==
          OTEL_BUFFER_TOO_SMALL) {
-    buffer.resize(length);
+    text.resize(length);
   }
-  must(call, status);
-  buffer.resize(length);
-  return buffer;
+  text.resize(status == OTEL_OK ? length : 0);
+  return status;
 }
 
 /* Takes all lines out of a pipeline. Where there is no memory for more, those that were taken are handed out. */
