@@ -32,25 +32,34 @@ static const any_call calls[] = {
     {"otel_with_bools", call_with_bools, 20},
     {"otel_start", call_start, 150},
     {"otel_start_remote", call_start_remote, 80},
+    {"otel_start_with", call_start_with, 80},
+    {"otel_start_remote_with", call_start_remote_with, 40},
     {"otel_identity", call_identity, 20},
     {"otel_set_text", call_set_text, 40},
     {"otel_set_integer", call_set_integer, 30},
     {"otel_set_float", call_set_float, 30},
     {"otel_set_bool", call_set_bool, 20},
     {"otel_set_attributes", call_set_attributes, 30},
+    {"otel_set_attributes_with", call_set_attributes_with, 40},
     {"otel_add_event", call_add_event, 40},
+    {"otel_add_event_with", call_add_event_with, 40},
     {"otel_record_exception", call_record_exception, 30},
     {"otel_add_link", call_add_link, 30},
+    {"otel_add_link_with", call_add_link_with, 30},
     {"otel_add_remote_link", call_add_remote_link, 30},
+    {"otel_add_remote_link_with", call_add_remote_link_with, 30},
     {"otel_set_status", call_set_status, 40},
     {"otel_update_name", call_update_name, 20},
     {"otel_inject", call_inject, 30},
-    {"otel_end", call_end, 150},
+    {"otel_end", call_end, 200},
     {"otel_abandon", call_abandon, 20},
     {"otel_flush", call_flush, 10},
     {"otel_run", call_run, 20},
-    {"otel_drain", call_drain, 20},
+    {"otel_drain", call_drain, 10},
+    {"otel_drain_some", call_drain_some, 20},
     {"otel_count", call_count, 10},
+    {"otel_version", call_version, 2},
+    {"otel_after_fork", call_after_fork, 4},
     {"otel_shutdown", call_shutdown, 0},
     {"otel_close", call_close, 0},
 };
@@ -127,7 +136,8 @@ static const any_call *next_call(driver *driver, const pipeline *pipeline) {
 
 /* The call, or another where the model has no room for what it would give. */
 static const any_call *call_with_room(const pipeline *pipeline, const any_call *call) {
-  bool is_start = call->call == call_start || call->call == call_start_remote;
+  bool is_start = call->call == call_start || call->call == call_start_remote || call->call == call_start_with ||
+                  call->call == call_start_remote_with;
   if (is_start && pipeline->span_count == SPANS) {
     return call_of("otel_end");
   }
@@ -151,7 +161,7 @@ static void drive(driver *driver, uint64_t count) {
 static void close_all(driver *driver) {
   driver->name = "otel_close";
   for (size_t i = 0; i < PIPELINES; i++) {
-    call_drain(driver, &driver->pipelines[i]);
+    drain_all(driver, &driver->pipelines[i]);
     call_close(driver, &driver->pipelines[i]);
   }
 }

@@ -40,7 +40,7 @@ void call_with_bool(driver *driver, pipeline *pipeline) {
 }
 
 /* Cuts a text into as many lengths. */
-static void cut(driver *driver, uint64_t *lengths, size_t count, size_t length) {
+void cut(driver *driver, uint64_t *lengths, size_t count, size_t length) {
   for (size_t i = 0; i + 1 < count; i++) {
     lengths[i] = any_below(driver, length + 1);
     length -= lengths[i];
@@ -51,7 +51,7 @@ static void cut(driver *driver, uint64_t *lengths, size_t count, size_t length) 
 }
 
 /* What is wrong with a list of texts: lengths that are not those of all its bytes, or an item that is not UTF-8. */
-static void look_at_texts(refusals *refusals, const text *values, const uint64_t *lengths, size_t count) {
+void look_at_texts(refusals *refusals, const text *values, const uint64_t *lengths, size_t count) {
   size_t at = 0;
   for (size_t i = 0; i < count; i++) {
     if (lengths[i] > values->length - at) {
@@ -62,7 +62,7 @@ static void look_at_texts(refusals *refusals, const text *values, const uint64_t
     refusals->owed[OTEL_NOT_UTF8] |= !is_utf8(values->bytes + at, lengths[i]);
     at += lengths[i];
   }
-  refusals->owed[OTEL_BAD_ARGUMENT] = at < values->length;
+  refusals->owed[OTEL_BAD_ARGUMENT] |= at < values->length;
   refusals->allowed[OTEL_NOT_UTF8] |= !values->is_utf8;
 }
 

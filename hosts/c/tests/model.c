@@ -21,12 +21,21 @@ uint64_t any_key(driver *driver, const pipeline *pipeline) {
   return is_one_in(driver, 8) ? any_number(driver) : any_below(driver, 32);
 }
 
-void note_opening(pipeline *pipeline) {
+void note_opening(pipeline *pipeline, uint64_t most_undrained) {
   otel_handle handle = pipeline->handle;
   memset(pipeline, 0, sizeof *pipeline);
   pipeline->handle = handle;
   pipeline->is_open = true;
   pipeline->tracer_count = 1;
+  pipeline->most_undrained = most_undrained;
+}
+
+/* What stays after a fork: the tracers, and the keys that were given. */
+void note_fork(pipeline *pipeline) {
+  pipeline->is_shut_down = false;
+  pipeline->span_count = 0;
+  pipeline->ended = pipeline->drained = pipeline->next_drained = 0;
+  pipeline->numbers = (otel_numbers){0};
 }
 
 /* Notes a key, which must be a new one. */
@@ -61,7 +70,7 @@ void note_end(driver *driver, pipeline *pipeline, uint64_t key, bool is_handed_o
     fail(driver, "a span ended that was not open", key);
   }
   if (is_handed_on && !pipeline->is_shut_down && (span->identity.trace_flags & 1)) {
-    pipeline->ended++;
+    pipeline->ended_ids[pipeline->ended++] = span->identity.span_id;
   }
   *span = pipeline->spans[--pipeline->span_count];
 }
@@ -101,11 +110,46 @@ void check_untouched(const driver *driver, uint32_t status, const void *answer, 
   }
 }
 
+void add_refusals(refusals *to, const refusals *from) {
+  for (size_t status = 0; status < STATUSES; status++) {
+    to->owed[status] |= from->owed[status];
+    to->allowed[status] |= from->allowed[status];
+  }
+}
+
+/* Each sampled span that was ended is in a line, waits, or was counted. */
+static void check_balance(driver *driver, const pipeline *pipeline) {
+  const otel_numbers *numbers = &pipeline->numbers;
+  uint64_t lost = numbers->dropped_spans + numbers->refused_spans + numbers->lost_spans;
+  uint64_t found = pipeline->drained + numbers->waiting_spans + numbers->undrained_spans + lost;
+  if (found < pipeline->ended) {
+    fail(driver, "sampled spans ended, and are neither in lines nor waiting nor counted:", pipeline->ended - found);
+  }
+  if (found > pipeline->ended) {
+    fail(driver, "there are more spans in lines, waiting and counted than ended:", found - pipeline->ended);
+  }
+}
+
+/* Looks whether what was lost did not become less, and what is kept is not too much. */
+static void check_losses(driver *driver, const pipeline *pipeline, const otel_numbers *numbers) {
+  const otel_numbers *before = &pipeline->numbers;
+  if (numbers->dropped_spans < before->dropped_spans || numbers->refused_spans < before->refused_spans ||
+      numbers->lost_batches < before->lost_batches || numbers->lost_spans < before->lost_spans) {
+    fail(driver, "what was dropped, refused or lost became less; dropped:", numbers->dropped_spans);
+  }
+  if (numbers->lost_spans < numbers->lost_batches) {
+    fail(driver, "batches were lost that had no spans:", numbers->lost_batches);
+  }
+  if (numbers->undrained_spans > pipeline->most_undrained) {
+    fail(driver, "more spans are kept than may be:", numbers->undrained_spans);
+  }
+}
+
 /* Asks for the numbers, and looks whether they fit the model and those before. */
 void check_numbers(driver *driver, pipeline *pipeline) {
   otel_numbers numbers;
   memset(&numbers, UNTOUCHED, sizeof numbers);
-  uint32_t status = otel_count(&pipeline->handle, &numbers);
+  uint32_t status = otel_count(&pipeline->handle, &numbers, sizeof numbers);
   if (status != (pipeline->is_open ? OTEL_OK : OTEL_CLOSED)) {
     fail(driver, "the numbers came with the status", status);
   }
@@ -116,25 +160,7 @@ void check_numbers(driver *driver, pipeline *pipeline) {
   if (numbers.open_spans != pipeline->span_count) {
     fail(driver, "the pipeline says that there are other open spans:", numbers.open_spans);
   }
-  if (numbers.dropped_spans < pipeline->numbers.dropped_spans ||
-      numbers.refused_spans < pipeline->numbers.refused_spans ||
-      numbers.lost_batches < pipeline->numbers.lost_batches) {
-    fail(driver, "what was dropped, refused or lost became less; dropped:", numbers.dropped_spans);
-  }
+  check_losses(driver, pipeline, &numbers);
   pipeline->numbers = numbers;
-}
-
-/* After a drain each sampled span that was ended is in a line, waits, or was counted. */
-void check_balance(driver *driver, const pipeline *pipeline) {
-  const otel_numbers *numbers = &pipeline->numbers;
-  if (numbers->lost_batches > 0) {
-    return;
-  }
-  uint64_t found = pipeline->drained + numbers->waiting_spans + numbers->dropped_spans + numbers->refused_spans;
-  if (found < pipeline->ended) {
-    fail(driver, "sampled spans ended, and are neither in lines nor waiting nor counted:", pipeline->ended - found);
-  }
-  if (found > pipeline->ended) {
-    fail(driver, "there are more spans in lines, waiting and dropped than ended:", found - pipeline->ended);
-  }
+  check_balance(driver, pipeline);
 }

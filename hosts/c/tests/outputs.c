@@ -24,6 +24,11 @@ static uint32_t write_lines(otel_handle *handle, uint64_t span, uint8_t *buffer,
   return otel_drain(handle, buffer, room, length);
 }
 
+static uint32_t write_some_lines(otel_handle *handle, uint64_t span, uint8_t *buffer, size_t room, size_t *length) {
+  (void)span;
+  return otel_drain_some(handle, buffer, room, length);
+}
+
 static void check_all_untouched(driver *driver, const uint8_t *bytes, size_t count, const char *what) {
   for (size_t i = 0; i < count; i++) {
     if (bytes[i] != UNTOUCHED) {
@@ -111,21 +116,68 @@ void call_inject(driver *driver, pipeline *pipeline) {
   }
 }
 
-static size_t count_of(const uint8_t *bytes, size_t length, const char *what) {
-  size_t count = 0, size = strlen(what);
-  for (size_t at = 0; at + size <= length; at++) {
-    const uint8_t *found = memchr(bytes + at, what[0], length - at - size + 1);
-    if (found == NULL) {
-      break;
+/* Where a text begins within bytes; NULL where it does not. */
+static const uint8_t *place_of(const uint8_t *bytes, const uint8_t *end, const char *what) {
+  size_t size = strlen(what);
+  while ((size_t)(end - bytes) >= size) {
+    bytes = memchr(bytes, what[0], (size_t)(end - bytes) - size + 1);
+    if (bytes == NULL || memcmp(bytes, what, size) == 0) {
+      return bytes;
     }
-    at = (size_t)(found - bytes);
-    count += memcmp(found, what, size) == 0;
+    bytes++;
   }
-  return count;
+  return NULL;
 }
 
-/* Looks at the lines, and counts their spans: within a text of JSON no quotation mark is without a backslash, so that
-   this member stands once in each span and nowhere else. */
+static uint64_t id_at(const uint8_t *digits) {
+  static const char hexadecimal[] = "0123456789abcdef";
+  uint64_t id = 0;
+  for (size_t i = 0; i < 16; i++) {
+    id = id * 16 + (uint64_t)(strchr(hexadecimal, (char)digits[i]) - hexadecimal);
+  }
+  return id;
+}
+
+/* Notes a span of a line: it has ended after those of the lines before, and was in none of them. *last becomes the
+   greatest place of the line's spans among those that ended. */
+static void note_drained(driver *driver, pipeline *pipeline, uint64_t id, uint64_t *last) {
+  uint64_t place = pipeline->next_drained;
+  while (place < pipeline->ended && pipeline->ended_ids[place] != id) {
+    place++;
+  }
+  if (place == pipeline->ended) {
+    fail(driver, "a span is in a line that did not end, or came before, or in another order; its id:", id);
+  }
+  *last = place > *last ? place : *last;
+  pipeline->drained++;
+}
+
+/* Looks at the spans of a line. Within a text of JSON no quotation mark is without a backslash, so that each span has
+   one parent's id, and before it, as the last one, its own. */
+static void check_spans(driver *driver, pipeline *pipeline, const uint8_t *line, size_t length) {
+  static const char own_id[] = "\"spanId\":\"", parent_id[] = "\"parentSpanId\":\"";
+  const uint8_t *end = line + length, *own = NULL, *next = place_of(line, end, own_id);
+  const uint8_t *parent = place_of(line, end, parent_id);
+  uint64_t last = pipeline->next_drained, count = 0;
+  while (parent != NULL) {
+    while (next != NULL && next < parent) {
+      own = next + sizeof own_id - 1;
+      next = place_of(own, end, own_id);
+    }
+    if (own == NULL) {
+      fail(driver, "a span of a line has no id, after spans:", count);
+    }
+    note_drained(driver, pipeline, id_at(own), &last);
+    count++;
+    parent = place_of(parent + 1, end, parent_id);
+  }
+  if (count == 0) {
+    fail(driver, "a line has no spans, of bytes:", length);
+  }
+  pipeline->next_drained = last + 1;
+}
+
+/* Looks at whole lines. */
 static void check_lines(driver *driver, pipeline *pipeline, const output *output) {
   static const char begin[] = "{\"resourceSpans\"";
   size_t at = 0;
@@ -137,23 +189,49 @@ static void check_lines(driver *driver, pipeline *pipeline, const output *output
     if (length < sizeof begin || memcmp(line, begin, sizeof begin - 1) != 0) {
       fail(driver, "no request begins at byte", at);
     }
-    pipeline->drained += count_of(line, length, ",\"startTimeUnixNano\":");
+    check_spans(driver, pipeline, line, length);
     driver->lines++;
     at += length;
   }
 }
 
-void call_drain(driver *driver, pipeline *pipeline) {
+/* Looks at what a drain answered: where it is nothing, nothing is left, and what is too much for a buffer is counted.
+ */
+static void check_drain(driver *driver, pipeline *pipeline, const output *output) {
   refusals refusals = {.allowed = {[OTEL_BUFFER_TOO_SMALL] = true}};
-  output output = taken(driver, pipeline, write_lines, 0);
-  check_status(driver, pipeline, output.status, &refusals);
-  if (output.status != OTEL_OK) {
-    return;
-  }
-  check_lines(driver, pipeline, &output);
-  if (written(driver, pipeline, write_lines, 0, 0).status == OTEL_BUFFER_TOO_SMALL) {
-    fail(driver, "after a drain of all there is more, beside bytes:", output.length);
+  check_status(driver, pipeline, output->status, &refusals);
+  if (output->status == OTEL_OK) {
+    check_lines(driver, pipeline, output);
   }
   check_numbers(driver, pipeline);
-  check_balance(driver, pipeline);
+  uint64_t spans = pipeline->numbers.undrained_spans, bytes = pipeline->numbers.undrained_bytes;
+  if (output->status == OTEL_OK && output->length == 0 && pipeline->is_open && (spans > 0 || bytes > 0)) {
+    fail(driver, "a drain had no line, and there are undrained spans:", spans);
+  }
+  if (output->status == OTEL_BUFFER_TOO_SMALL && (spans == 0 || bytes < output->length)) {
+    fail(driver, "lines are too much for a buffer, and fewer bytes are undrained:", bytes);
+  }
+}
+
+/* Drains until nothing is left, or a call is refused. */
+static void drain_by(driver *driver, pipeline *pipeline, writer write) {
+  output output;
+  do {
+    output = taken(driver, pipeline, write, 0);
+    check_drain(driver, pipeline, &output);
+  } while (output.status == OTEL_OK && output.length > 0);
+}
+
+void drain_all(driver *driver, pipeline *pipeline) { drain_by(driver, pipeline, write_lines); }
+
+void call_drain(driver *driver, pipeline *pipeline) { drain_by(driver, pipeline, write_lines); }
+
+/* Drains all, or once into a buffer of any room. */
+void call_drain_some(driver *driver, pipeline *pipeline) {
+  if (is_one_in(driver, 2)) {
+    drain_by(driver, pipeline, write_some_lines);
+    return;
+  }
+  output output = written(driver, pipeline, write_some_lines, 0, any_below(driver, 16384));
+  check_drain(driver, pipeline, &output);
 }

@@ -4,6 +4,9 @@
 
 #include <string.h>
 
+/* How many exported spans are kept where no setting says it. */
+enum { MOST_UNDRAINED = 65536 };
+
 /* Settings whose every line reads. */
 static const char *const settings_that_read[] = {
     "",
@@ -15,6 +18,16 @@ static const char *const settings_that_read[] = {
     "OTEL_TRACES_SAMPLER=parentbased_traceidratio\nOTEL_TRACES_SAMPLER_ARG=0.5",
     "OTEL_SPAN_ATTRIBUTE_COUNT_LIMIT=1\nOTEL_SPAN_EVENT_COUNT_LIMIT=2\nOTEL_SPAN_LINK_COUNT_LIMIT=1",
     "OTEL_ATTRIBUTE_VALUE_LENGTH_LIMIT=3\nOTEL_RESOURCE_ATTRIBUTES=a=b,c=d",
+};
+
+/* The same, with so many exported spans that are kept at most. */
+static const struct {
+  const char *settings;
+  uint64_t most_undrained;
+} settings_of_few[] = {
+    {"OTEL_C_MAX_UNDRAINED_SPANS=1\nOTEL_SPAN_PROCESSOR=simple", 1},
+    {"OTEL_C_MAX_UNDRAINED_SPANS=5\nOTEL_BSP_MAX_EXPORT_BATCH_SIZE=2", 5},
+    {"OTEL_SPAN_PROCESSOR=batch\nOTEL_BSP_MAX_EXPORT_BATCH_SIZE=3\nOTEL_C_MAX_UNDRAINED_SPANS=8", 8},
 };
 
 static bool is_tracer(const pipeline *pipeline, uint64_t tracer) {
@@ -43,15 +56,50 @@ static uint32_t any_kind(driver *driver, refusals *refusals) {
   return kind;
 }
 
-void call_open(driver *driver, pipeline *pipeline) {
+/* Settings by chance. */
+static text any_settings(driver *driver, uint64_t *most_undrained) {
   size_t choices = sizeof settings_that_read / sizeof *settings_that_read;
-  text settings = is_one_in(driver, 4) ? any_text(driver, 0)
-                                       : copied_text(driver, 0, settings_that_read[any_below(driver, choices)]);
+  size_t few = sizeof settings_of_few / sizeof *settings_of_few;
+  *most_undrained = MOST_UNDRAINED;
+  if (is_one_in(driver, 4)) {
+    return any_text(driver, 0);
+  }
+  size_t choice = any_below(driver, choices + few);
+  if (choice < choices) {
+    return copied_text(driver, 0, settings_that_read[choice]);
+  }
+  *most_undrained = settings_of_few[choice - choices].most_undrained;
+  return copied_text(driver, 0, settings_of_few[choice - choices].settings);
+}
+
+void call_open(driver *driver, pipeline *pipeline) {
+  uint64_t most_undrained;
+  text settings = any_settings(driver, &most_undrained);
   refusals refusals = {.owed = {[OTEL_ALREADY_OPEN] = pipeline->is_open, [OTEL_NOT_UTF8] = !settings.is_utf8}};
   uint32_t status = otel_open(&pipeline->handle, settings.bytes, settings.length, any_number(driver));
   check_status(driver, pipeline, status, &refusals);
   if (status == OTEL_OK) {
-    note_opening(pipeline);
+    note_opening(pipeline, most_undrained);
+  }
+}
+
+/* It needs no handle. */
+void call_version(driver *driver, pipeline *pipeline) {
+  uint32_t major = 77, minor = 77, patch = 77;
+  (void)pipeline;
+  if (otel_version(&major, &minor, &patch) != OTEL_OK || major != OTEL_VERSION_MAJOR || minor != OTEL_VERSION_MINOR ||
+      patch != OTEL_VERSION_PATCH) {
+    fail(driver, "the library is not of the header's version; its minor one:", minor);
+  }
+  driver->answers[OTEL_OK]++;
+}
+
+void call_after_fork(driver *driver, pipeline *pipeline) {
+  refusals refusals = {0};
+  uint32_t status = otel_after_fork(&pipeline->handle, any_number(driver));
+  check_status(driver, pipeline, status, &refusals);
+  if (status == OTEL_OK) {
+    note_fork(pipeline);
   }
 }
 
@@ -78,18 +126,23 @@ static void check_trace(const driver *driver, const pipeline *pipeline, uint64_t
   }
 }
 
-void call_start(driver *driver, pipeline *pipeline) {
+/* Starts a span with the attributes that were gathered, or with some that are handed. */
+static void start(driver *driver, pipeline *pipeline, bool is_handed) {
   refusals refusals = {0};
   uint64_t tracer = any_tracer(driver, pipeline, &refusals), key;
-  uint64_t parent = is_one_in(driver, 3) ? 0 : any_key(driver, pipeline);
+  uint64_t parent = is_one_in(driver, 3) ? 0 : any_key(driver, pipeline), moment = any_moment(driver);
   const open_span *parent_span = span_of(pipeline, parent);
   uint32_t kind = any_kind(driver, &refusals);
   text name = any_text(driver, 0);
+  handed with = is_handed ? any_handed(driver) : (handed){0};
   refusals.owed[OTEL_NO_SUCH_SPAN] = parent != 0 && parent_span == NULL;
   refusals.owed[OTEL_NOT_UTF8] = !name.is_utf8;
+  add_refusals(&refusals, &with.refusals);
   memset(&key, UNTOUCHED, sizeof key);
-  uint32_t status =
-      otel_start(&pipeline->handle, tracer, parent, kind, name.bytes, name.length, any_moment(driver), &key);
+  uint32_t status = is_handed
+                        ? otel_start_with(&pipeline->handle, tracer, parent, kind, name.bytes, name.length, moment,
+                                          with.list, with.count, &key)
+                        : otel_start(&pipeline->handle, tracer, parent, kind, name.bytes, name.length, moment, &key);
   check_status(driver, pipeline, status, &refusals);
   check_untouched(driver, status, &key, sizeof key);
   if (status != OTEL_OK) {
@@ -101,20 +154,30 @@ void call_start(driver *driver, pipeline *pipeline) {
   }
 }
 
+void call_start(driver *driver, pipeline *pipeline) { start(driver, pipeline, false); }
+
+void call_start_with(driver *driver, pipeline *pipeline) { start(driver, pipeline, true); }
+
 /* Headers that are not UTF-8 do not read, or are refused as texts. */
-void call_start_remote(driver *driver, pipeline *pipeline) {
+static void start_remote(driver *driver, pipeline *pipeline, bool is_handed) {
   refusals refusals = {0};
-  uint64_t tracer = any_tracer(driver, pipeline, &refusals), key;
+  uint64_t tracer = any_tracer(driver, pipeline, &refusals), moment = any_moment(driver), key;
   parent_header parent = any_parent_header(driver, 0);
   text state = any_text(driver, 1), baggage = any_text(driver, 2);
   uint32_t kind = any_kind(driver, &refusals);
   text name = any_text(driver, 3);
+  handed with = is_handed ? any_handed(driver) : (handed){0};
   refusals.owed[OTEL_NOT_UTF8] = !name.is_utf8;
   refusals.allowed[OTEL_NOT_UTF8] = !parent.written.is_utf8 || !state.is_utf8 || !baggage.is_utf8;
+  add_refusals(&refusals, &with.refusals);
   memset(&key, UNTOUCHED, sizeof key);
-  uint32_t status = otel_start_remote(&pipeline->handle, tracer, parent.written.bytes, parent.written.length,
-                                      state.bytes, state.length, baggage.bytes, baggage.length, kind, name.bytes,
-                                      name.length, any_moment(driver), &key);
+  uint32_t status =
+      is_handed
+          ? otel_start_remote_with(&pipeline->handle, tracer, parent.written.bytes, parent.written.length, state.bytes,
+                                   state.length, baggage.bytes, baggage.length, kind, name.bytes, name.length, moment,
+                                   with.list, with.count, &key)
+          : otel_start_remote(&pipeline->handle, tracer, parent.written.bytes, parent.written.length, state.bytes,
+                              state.length, baggage.bytes, baggage.length, kind, name.bytes, name.length, moment, &key);
   check_status(driver, pipeline, status, &refusals);
   check_untouched(driver, status, &key, sizeof key);
   if (status != OTEL_OK) {
@@ -125,6 +188,10 @@ void call_start_remote(driver *driver, pipeline *pipeline) {
     check_trace(driver, pipeline, parent.trace_id_high, parent.trace_id_low);
   }
 }
+
+void call_start_remote(driver *driver, pipeline *pipeline) { start_remote(driver, pipeline, false); }
+
+void call_start_remote_with(driver *driver, pipeline *pipeline) { start_remote(driver, pipeline, true); }
 
 void call_identity(driver *driver, pipeline *pipeline) {
   uint64_t key = any_key(driver, pipeline);
@@ -184,11 +251,13 @@ void call_run(driver *driver, pipeline *pipeline) {
   check_export(driver, pipeline, otel_run(&pipeline->handle, any_moment(driver)));
 }
 
+/* Asks for numbers of any size, of which one is right. */
 void call_count(driver *driver, pipeline *pipeline) {
   otel_numbers numbers;
-  refusals refusals = {0};
+  size_t size = is_one_in(driver, 2) ? sizeof numbers : any_below(driver, 2 * sizeof numbers);
+  refusals refusals = {.owed = {[OTEL_BAD_ARGUMENT] = size != sizeof numbers}};
   memset(&numbers, UNTOUCHED, sizeof numbers);
-  uint32_t status = otel_count(&pipeline->handle, &numbers);
+  uint32_t status = otel_count(&pipeline->handle, &numbers, size);
   check_status(driver, pipeline, status, &refusals);
   check_untouched(driver, status, &numbers, sizeof numbers);
 }

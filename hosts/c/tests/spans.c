@@ -29,6 +29,16 @@ static text edit_text(driver *driver, edit *edit, size_t slot) {
   return text;
 }
 
+/* Attributes that an edit is handed. */
+static handed edit_handed(driver *driver, edit *edit) {
+  handed with = any_handed(driver);
+  for (uint32_t status = 0; status < STATUSES; status++) {
+    refuse(edit, status, with.refusals.owed[status]);
+    edit->refusals.allowed[status] |= with.refusals.allowed[status];
+  }
+  return with;
+}
+
 void call_set_text(driver *driver, pipeline *pipeline) {
   edit edit = any_edit(driver, pipeline);
   text key = edit_text(driver, &edit, 0), value = edit_text(driver, &edit, 1);
@@ -65,10 +75,26 @@ void call_set_attributes(driver *driver, pipeline *pipeline) {
   check_status(driver, pipeline, status, &edit.refusals);
 }
 
+void call_set_attributes_with(driver *driver, pipeline *pipeline) {
+  edit edit = any_edit(driver, pipeline);
+  handed with = edit_handed(driver, &edit);
+  uint32_t status = otel_set_attributes_with(&pipeline->handle, edit.key, with.list, with.count);
+  check_status(driver, pipeline, status, &edit.refusals);
+}
+
 void call_add_event(driver *driver, pipeline *pipeline) {
   edit edit = any_edit(driver, pipeline);
   text name = edit_text(driver, &edit, 0);
   uint32_t status = otel_add_event(&pipeline->handle, edit.key, name.bytes, name.length, any_moment(driver));
+  check_status(driver, pipeline, status, &edit.refusals);
+}
+
+void call_add_event_with(driver *driver, pipeline *pipeline) {
+  edit edit = any_edit(driver, pipeline);
+  text name = edit_text(driver, &edit, 0);
+  handed with = edit_handed(driver, &edit);
+  uint32_t status = otel_add_event_with(&pipeline->handle, edit.key, name.bytes, name.length, any_moment(driver),
+                                        with.list, with.count);
   check_status(driver, pipeline, status, &edit.refusals);
 }
 
@@ -89,17 +115,34 @@ void call_add_link(driver *driver, pipeline *pipeline) {
   check_status(driver, pipeline, status, &edit.refusals);
 }
 
+void call_add_link_with(driver *driver, pipeline *pipeline) {
+  edit edit = any_edit(driver, pipeline);
+  uint64_t linked = any_key(driver, pipeline);
+  handed with = edit_handed(driver, &edit);
+  refuse(&edit, OTEL_NO_SUCH_SPAN, span_of(pipeline, linked) == NULL);
+  uint32_t status = otel_add_link_with(&pipeline->handle, edit.key, linked, with.list, with.count);
+  check_status(driver, pipeline, status, &edit.refusals);
+}
+
 /* Headers that are not UTF-8 do not read, or are refused as texts. */
-void call_add_remote_link(driver *driver, pipeline *pipeline) {
+static void add_remote_link(driver *driver, pipeline *pipeline, bool is_handed) {
   edit edit = any_edit(driver, pipeline);
   parent_header parent = any_parent_header(driver, 0);
   text state = any_text(driver, 1);
+  handed with = is_handed ? edit_handed(driver, &edit) : (handed){0};
   refuse(&edit, OTEL_BAD_ARGUMENT, !parent.is_valid);
-  edit.refusals.allowed[OTEL_NOT_UTF8] = !parent.written.is_utf8 || !state.is_utf8;
-  uint32_t status = otel_add_remote_link(&pipeline->handle, edit.key, parent.written.bytes, parent.written.length,
-                                         state.bytes, state.length);
+  edit.refusals.allowed[OTEL_NOT_UTF8] |= !parent.written.is_utf8 || !state.is_utf8;
+  uint32_t status =
+      is_handed ? otel_add_remote_link_with(&pipeline->handle, edit.key, parent.written.bytes, parent.written.length,
+                                            state.bytes, state.length, with.list, with.count)
+                : otel_add_remote_link(&pipeline->handle, edit.key, parent.written.bytes, parent.written.length,
+                                       state.bytes, state.length);
   check_status(driver, pipeline, status, &edit.refusals);
 }
+
+void call_add_remote_link(driver *driver, pipeline *pipeline) { add_remote_link(driver, pipeline, false); }
+
+void call_add_remote_link_with(driver *driver, pipeline *pipeline) { add_remote_link(driver, pipeline, true); }
 
 /* Of a status that is no error, the description may be passed over. */
 void call_set_status(driver *driver, pipeline *pipeline) {
