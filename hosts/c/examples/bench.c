@@ -18,8 +18,8 @@ static void trace_batch(otel_handle *handle) {
 /* Ends the program where a span did not come to a line. */
 static void check_numbers(otel_handle *handle) {
   otel_numbers numbers;
-  must(otel_count(handle, &numbers), "otel_count");
-  uint64_t missed = numbers.dropped_spans + numbers.refused_spans + numbers.lost_batches;
+  must(otel_count(handle, &numbers, sizeof numbers), "otel_count");
+  uint64_t missed = numbers.dropped_spans + numbers.refused_spans + numbers.lost_spans;
   if (numbers.open_spans + numbers.waiting_spans + missed != 0) {
     fprintf(stderr, "not every span came to a line\n");
     exit(1);

@@ -13,6 +13,21 @@
 /* A text that ends in a zero, as bytes and a length. */
 #define TEXT(text) (const uint8_t *)(text), strlen(text)
 
+/* Attributes of such texts. */
+static inline otel_attribute text_attribute(const char *key, const char *value) {
+  otel_attribute made = otel_attribute_of(TEXT(key));
+  made.kind = OTEL_TEXT;
+  made.bytes = (const uint8_t *)value;
+  made.bytes_length = strlen(value);
+  return made;
+}
+static inline otel_attribute integer_attribute(const char *key, int64_t value) {
+  otel_attribute made = otel_attribute_of(TEXT(key));
+  made.kind = OTEL_INTEGER;
+  made.integer = value;
+  return made;
+}
+
 typedef struct {
   uint8_t *bytes;
   size_t room;
@@ -21,19 +36,8 @@ typedef struct {
 
 /* Ends the program where a call did not do what it was asked. */
 static inline void must(uint32_t status, const char *call) {
-  static const char *const reasons[] = {"ok",
-                                        "the handle is closed",
-                                        "the handle is open already",
-                                        "out of memory",
-                                        "no such span",
-                                        "no such tracer",
-                                        "not UTF-8",
-                                        "bad argument",
-                                        "the buffer is too small",
-                                        "failed"};
   if (status != OTEL_OK) {
-    const char *reason = status < sizeof reasons / sizeof *reasons ? reasons[status] : "a status of no name";
-    fprintf(stderr, "%s: %s\n", call, reason);
+    fprintf(stderr, "%s: %s\n", call, otel_status_text(status));
     exit(1);
   }
 }
@@ -69,11 +73,18 @@ static inline void grow(growing_buffer *buffer, size_t room) {
 
 /* Takes all lines out of the pipeline, into a buffer that has some room and grows to what they need. */
 static inline void drain(otel_handle *handle, growing_buffer *buffer) {
+  size_t length = 0;
   uint32_t status;
-  while ((status = otel_drain(handle, buffer->bytes, buffer->room, &buffer->length)) == OTEL_BUFFER_TOO_SMALL) {
-    grow(buffer, buffer->length);
-  }
-  must(status, "otel_drain");
+  buffer->length = 0;
+  do {
+    status = otel_drain_some(handle, buffer->bytes + buffer->length, buffer->room - buffer->length, &length);
+    if (status == OTEL_BUFFER_TOO_SMALL) {
+      grow(buffer, 2 * buffer->room + length);
+    } else {
+      must(status, "otel_drain_some");
+      buffer->length += length;
+    }
+  } while (status == OTEL_BUFFER_TOO_SMALL || length > 0);
 }
 
 #endif

@@ -50,9 +50,8 @@ static void ask_stock(otel_handle *handle, uint64_t tracer, uint64_t parent) {
   must(otel_start(handle, tracer, parent, OTEL_CLIENT, TEXT("ask stock"), moment_now(), &span), "otel_start");
   must(otel_inject(handle, span, headers, sizeof headers, &length), "otel_inject");
   answer_stock(handle, tracer, headers, length);
-  must(otel_with_text(handle, TEXT("article"), TEXT("teapot")), "otel_with_text");
-  must(otel_with_integer(handle, TEXT("left"), 0), "otel_with_integer");
-  must(otel_add_event(handle, span, TEXT("sold out"), moment_now()), "otel_add_event");
+  const otel_attribute about[] = {text_attribute("article", "teapot"), integer_attribute("left", 0)};
+  must(otel_add_event_with(handle, span, TEXT("sold out"), moment_now(), about, 2), "otel_add_event_with");
   must(otel_add_link(handle, span, parent), "otel_add_link");
   must(otel_set_status(handle, span, OTEL_STATUS_ERROR, TEXT("sold out")), "otel_set_status");
   must(otel_end(handle, span, moment_now()), "otel_end");
@@ -62,9 +61,13 @@ static void answer_request(otel_handle *handle) {
   const int64_t sizes[] = {3, 5};
   uint64_t tracer, span;
   must(otel_tracer(handle, TEXT("shop.http"), TEXT("1.2"), TEXT(""), &tracer), "otel_tracer");
-  must(otel_with_text(handle, TEXT("http.route"), TEXT("/cart")), "otel_with_text");
-  must(otel_with_integers(handle, TEXT("cart.sizes"), sizes, 2), "otel_with_integers");
-  must(otel_start(handle, tracer, 0, OTEL_SERVER, TEXT("GET /cart"), moment_now(), &span), "otel_start");
+  otel_attribute list = otel_attribute_of(TEXT("cart.sizes"));
+  list.kind = OTEL_INTEGERS;
+  list.integers = sizes;
+  list.integers_count = 2;
+  const otel_attribute about[] = {text_attribute("http.route", "/cart"), list};
+  must(otel_start_with(handle, tracer, 0, OTEL_SERVER, TEXT("GET /cart"), moment_now(), about, 2, &span),
+       "otel_start_with");
   ask_stock(handle, tracer, span);
   must(otel_set_bool(handle, span, TEXT("cart.is_complete"), false), "otel_set_bool");
   must(otel_end(handle, span, moment_now()), "otel_end");
@@ -72,10 +75,10 @@ static void answer_request(otel_handle *handle) {
 
 static void print_numbers(otel_handle *handle) {
   otel_numbers numbers;
-  must(otel_count(handle, &numbers), "otel_count");
-  fprintf(stderr, "spans: %llu open, %llu waiting, %llu dropped; batches: %llu lost\n",
-          (unsigned long long)numbers.open_spans, (unsigned long long)numbers.waiting_spans,
-          (unsigned long long)numbers.dropped_spans, (unsigned long long)numbers.lost_batches);
+  must(otel_count(handle, &numbers, sizeof numbers), "otel_count");
+  fprintf(stderr, "spans: %llu open, %llu waiting, %llu dropped, %llu lost\n", (unsigned long long)numbers.open_spans,
+          (unsigned long long)numbers.waiting_spans, (unsigned long long)numbers.dropped_spans,
+          (unsigned long long)numbers.lost_spans);
 }
 
 int main(void) {

@@ -39,7 +39,7 @@ void answer_request(otel::Pipeline &pipeline, otel::Tracer tracer) {
 void print_numbers(const otel::Pipeline &pipeline) {
   otel::Numbers numbers = pipeline.count();
   std::cerr << "spans: " << numbers.open_spans << " open, " << numbers.waiting_spans << " waiting, "
-            << numbers.dropped_spans << " dropped; batches: " << numbers.lost_batches << " lost\n";
+            << numbers.dropped_spans << " dropped, " << numbers.lost_spans << " lost\n";
 }
 
 void trace() {
