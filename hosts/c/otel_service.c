@@ -42,6 +42,7 @@ bool otel_private_make_condition(otel_service *service) {
   bool is_made = pthread_condattr_setclock(&attributes, CLOCK_MONOTONIC) == 0 &&
                  pthread_cond_init(&service->changed, &attributes) == 0;
   pthread_condattr_destroy(&attributes);
+  service->has_condition = is_made;
   return is_made;
 }
 
@@ -55,7 +56,9 @@ void otel_private_destroy(otel_service *service) {
   otel_private_forget_lines(service);
   otel_private_free_endpoint(&service->endpoint);
   free(service->ignored.bytes);
-  pthread_cond_destroy(&service->changed);
+  if (service->has_condition) {
+    pthread_cond_destroy(&service->changed);
+  }
   pthread_mutex_destroy(&service->mutex);
   free(service);
 }
@@ -163,7 +166,7 @@ void otel_service_unlock(otel_service *service) {
   if (!state->has_thread && !state->is_forked && !state->is_closing && !otel_private_start_thread(service)) {
     otel_private_say(service);
   }
-  if (++state->calls == CALLS_OF_A_LOOK) {
+  if (++state->calls == CALLS_OF_A_LOOK && service->has_condition) {
     state->next_look = 0;
     pthread_cond_broadcast(&service->changed);
   }
@@ -217,11 +220,11 @@ uint32_t otel_service_flush(otel_service *service, uint64_t milliseconds) {
   lock(service);
   bool is_taken = !service->state.is_forked && otel_private_take(service, true);
   uint64_t put = service->put_lines;
-  pthread_cond_broadcast(&service->changed);
-  otel_private_say(service);
   if (is_taken && !service->state.is_closing) {
     otel_private_start_thread(service);
+    pthread_cond_broadcast(&service->changed);
   }
+  otel_private_say(service);
   while (is_taken && !is_settled(service, put) && otel_private_milliseconds() < until) {
     otel_private_wait(service, until);
   }

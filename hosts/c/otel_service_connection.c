@@ -10,6 +10,10 @@
 #include <sys/socket.h>
 #include <unistd.h>
 
+#ifndef SOCK_CLOEXEC
+#define SOCK_CLOEXEC 0
+#endif
+
 /* How long a wait is at most before somebody looks after it. */
 enum { LOOK = 50 };
 
@@ -61,7 +65,7 @@ static bool is_connected(otel_private_connection *connection, const struct addri
 
 /* Opens a socket that no program started meanwhile gets, and that does not block. */
 static bool open_socket(otel_private_connection *connection, const struct addrinfo *address) {
-  connection->socket = socket(address->ai_family, address->ai_socktype, address->ai_protocol);
+  connection->socket = socket(address->ai_family, address->ai_socktype | SOCK_CLOEXEC, address->ai_protocol);
   if (connection->socket < 0) {
     connection->fault = strerror(errno);
     return false;

@@ -125,9 +125,9 @@ uint32_t otel_private_read_endpoint(otel_private_endpoint *endpoint, const char 
   } else {
     otel_private_add_text(&found, url);
   }
-  uint32_t status = read_url(endpoint, otel_private_shown(&found));
-  if (status == OTEL_SERVICE_OK && !is_whole) {
-    status = OTEL_SERVICE_BAD_ENDPOINT;
+  uint32_t status = OTEL_SERVICE_OK;
+  if (!found.is_cut) {
+    status = is_whole ? read_url(endpoint, otel_private_shown(&found)) : (uint32_t)OTEL_SERVICE_BAD_ENDPOINT;
   }
   read_headers(endpoint, ignored);
   bool is_cut = found.is_cut || endpoint->shown.is_cut || endpoint->begins.is_cut || ignored->is_cut;

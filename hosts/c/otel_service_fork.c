@@ -31,7 +31,7 @@ static void unlock_all(void) {
 static void unlock_all_in_child(void) {
   for (otel_service *it = services; it != NULL; it = it->next) {
     it->state.is_forked = true;
-    it->state.has_thread = false;
+    it->state.has_thread = it->has_condition = false;
     if (it->state.socket >= 0) {
       close(it->state.socket);
       it->state.socket = -1;
@@ -101,6 +101,7 @@ void otel_private_go_on_after_fork(otel_service *service) {
   }
   otel_private_forget_lines(service);
   service->numbers = (otel_service_numbers){0};
+  service->fault[0] = '\0';
   service->put_lines = service->done_lines = service->seen_drops = service->seen_batches = 0;
   memset(service->notices, 0, sizeof service->notices);
   *state = (otel_private_state){.socket = -1};

@@ -144,6 +144,7 @@ struct otel_service {
   otel_private_text ignored;
   pthread_mutex_t mutex;
   pthread_cond_t changed;
+  bool has_condition; /* that of a parent process is not to be touched: its threads wait there */
   otel_handle handle;
   otel_handle nobody; /* never opened */
   otel_private_state state;

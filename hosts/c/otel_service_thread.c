@@ -29,8 +29,12 @@ static uint64_t look_while_posting(void *context) {
   posting *it = context;
   otel_service *service = it->service;
   pthread_mutex_lock(&service->mutex);
-  look_after(service);
-  otel_private_say(service);
+  if (service->state.is_closed) {
+    it->deadline = 0;
+  } else {
+    look_after(service);
+    otel_private_say(service);
+  }
   if (service->state.is_closing && service->state.closing_by < it->deadline) {
     it->deadline = service->state.closing_by;
   }

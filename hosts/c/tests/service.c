@@ -175,7 +175,7 @@ static void do_fork(const work_plan *plan) {
   close_and_print(service, plan);
 }
 
-/* Children that end at once leave all to their parent. */
+/* Children that end at once, or let go of the service before, leave all to their parent. */
 static void do_idle_children(const work_plan *plan) {
   otel_service *service = opened(plan);
   trace_all(service, plan->spans);
@@ -183,6 +183,10 @@ static void do_idle_children(const work_plan *plan) {
     fflush(stdout);
     pid_t child = fork();
     if (child == 0) {
+      alarm(30);
+      if (i % 2 == 0) {
+        otel_service_free(service);
+      }
       exit(0);
     }
     int status = -1;
@@ -245,6 +249,28 @@ static void do_headers(const work_plan *plan) {
   close_and_print(service, plan);
 }
 
+/* Works while a request for memory is refused: the service does not open and says why, or all spans are counted. */
+static void do_refused(const work_plan *plan) {
+  otel_service *service;
+  otel_service_numbers numbers;
+  uint32_t status = otel_service_open(&service, &plan->options);
+  if (status != OTEL_SERVICE_OK) {
+    hold(status == OTEL_SERVICE_OUT_OF_MEMORY || status == OTEL_SERVICE_NO_THREAD, "memory ran out, or no thread came");
+    printf("service: OUT_OF_MEMORY 1 times\n");
+    return;
+  }
+  trace_all(service, plan->spans);
+  otel_service_flush(service, 20);
+  trace_all(service, plan->spans);
+  otel_service_close(service, plan->close_time);
+  otel_service_count(service, &numbers, sizeof numbers);
+  hold(numbers.ended_spans + numbers.failed_calls >= 2 * plan->spans && numbers.ended_spans <= 2 * plan->spans,
+       "every span that has ended is counted, or a call failed");
+  hold(numbers.open_spans == 0 && numbers.waiting_spans == 0, "no span is left");
+  otel_service_free(service);
+  printf("service: OUT_OF_MEMORY %" PRIu64 " times\n", numbers.failed_calls);
+}
+
 static bool read_word(work_plan *plan, const char *word) {
   otel_service_options *options = &plan->options;
   uint64_t tries = options->tries;
@@ -282,7 +308,8 @@ int main(int count, char **words) {
                {"exit", do_exit},
                {"idle_children", do_idle_children},
                {"open", do_open},
-               {"headers", do_headers}};
+               {"headers", do_headers},
+               {"refused", do_refused}};
   work_plan plan = {otel_service_options_of_defaults(), 100, 5000};
   for (int i = 2; i < count; i++) {
     hold(read_word(&plan, words[i]), "each word is known");
