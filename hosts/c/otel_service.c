@@ -245,6 +245,7 @@ static void end_thread(otel_service *service) {
   }
   state->is_closed = true;
   bool is_over = had_thread && !state->has_thread;
+  pthread_cond_broadcast(&service->changed); /* for those who flush */
   pthread_mutex_unlock(&service->mutex);
   if (is_over) {
     pthread_join(thread, NULL);
