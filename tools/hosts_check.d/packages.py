@@ -24,6 +24,7 @@ PLAIN_SEEDS = range(1, 10)
 SANITIZED_SEEDS = range(10, 14)
 # The versions of Python that the package promises, and those that are known.
 PYTHON_MINORS = range(9, 15)
+NO_COLLECTOR = "http://127.0.0.1:1"
 PYENV = os.environ.get("PYENV_ROOT") or os.path.expanduser("~/.pyenv")
 DIFFERING_TESTS = ("tests.test_signals", "tests.test_spans", "tests.test_pipeline")
 
@@ -79,11 +80,13 @@ def call_any(driver, calls, seeds):
 
 
 def run_under_valgrind():
-    """Runs the examples where every access to memory is looked at, and what is not given back."""
+    """Runs examples and a service where every access to memory is looked at, and what is not given back."""
     if not shutil.which("valgrind"):
         raise LeftOut("valgrind is not installed")
-    for example in ("trace", "trace_cpp"):
-        run(["valgrind", "--leak-check=full", "--error-exitcode=1", f"{C}/out/{example}"], SECONDS_TO_TEST)
+    env = environment(OTEL_EXPORTER_OTLP_ENDPOINT=NO_COLLECTOR)
+    for words in (["trace"], ["trace_cpp"], ["service", "refused"]):
+        checked = ["valgrind", "--leak-check=full", "--error-exitcode=1", f"{C}/out/{words[0]}", *words[1:]]
+        run(checked, SECONDS_TO_TEST, env=env)
 
 
 def build_rust():
