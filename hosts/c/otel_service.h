@@ -18,8 +18,8 @@
 
    A child process made by fork has a service of its own in the place of its parent's: with other ids, without the spans
    and lines of its parent, and with a thread that starts at its first call. Spans that the parent began are the
-   parent's alone to end; in the child they are parents still. A thread does not fork between otel_service_lock and
-   otel_service_unlock.
+   parent's alone to end; in the child they are parents still. This asks for a C library in which such a child may take
+   memory, as glibc. A thread does not fork between otel_service_lock and otel_service_unlock.
 
    Texts end in a zero, and NULL is an empty text. Times are milliseconds. */
 #ifndef OTEL_SERVICE_H

@@ -14,6 +14,18 @@ namespace otel {
 using Milliseconds = std::chrono::milliseconds;
 using ServiceNumbers = otel_service_numbers;
 
+/* Why a service did not open, with its otel_service_status. */
+class ServiceError : public std::runtime_error {
+public:
+  explicit ServiceError(std::uint32_t status)
+      : std::runtime_error(std::string("otel_service_open: ") + otel_service_status_text(status)), status_(status) {}
+
+  std::uint32_t status() const noexcept { return status_; }
+
+private:
+  std::uint32_t status_;
+};
+
 /* How a service works; see otel_service_options. */
 struct ServiceOptions {
   /* Lines NAME=VALUE, in place of variables of the environment of the same names. */
@@ -61,7 +73,7 @@ public:
     plain.waiting_lines = options.waiting_lines;
     std::uint32_t status = otel_service_open(&service_, &plain);
     if (status != OTEL_SERVICE_OK) {
-      throw std::runtime_error(std::string("otel_service_open: ") + otel_service_status_text(status));
+      throw ServiceError(status);
     }
   }
   ~Served() override { otel_service_free(service_); }
@@ -94,7 +106,7 @@ private:
    Spans start and end as those of a Pipeline do; threads may share them. */
 class Service : public Starter {
 public:
-  /* Opens a service by the environment. Where that cannot be done it throws std::runtime_error, which says why. */
+  /* Opens a service by the environment. Where that cannot be done it throws ServiceError. */
   static Service from_environment(const ServiceOptions &options = {}) {
     return Service(std::make_shared<detail::Served>(options));
   }

@@ -41,24 +41,28 @@ static void hand_bools(driver *driver, size_t slot, otel_attribute *made) {
   made->bytes = any_bytes(driver, slot, made->bytes_length);
 }
 
-/* An attribute whose key is in this place for memory, and whose values are in the two after it. */
+/* An attribute of a key, all of whose values lie where nothing can be read. */
+static otel_attribute unread_attribute(driver *driver, const text *key, const uint8_t *nothing) {
+  return (otel_attribute){.key = key->bytes,
+                          .key_length = key->length,
+                          .kind = (uint32_t)(1 + any_below(driver, OTEL_BOOLS)),
+                          .truth = (uint32_t)any_below(driver, 3),
+                          .integer = (int64_t)any_number(driver),
+                          .number = any_double(driver),
+                          .bytes = nothing,
+                          .bytes_length = any_below(driver, 64),
+                          .lengths = (const uint64_t *)(const void *)nothing,
+                          .lengths_count = any_below(driver, 8),
+                          .integers = (const int64_t *)(const void *)nothing,
+                          .integers_count = any_below(driver, 8),
+                          .numbers = (const double *)(const void *)nothing,
+                          .numbers_count = any_below(driver, 8)};
+}
+
+/* An attribute whose key is in this place for memory, and what its kind reads in the two after it. */
 static otel_attribute any_attribute(driver *driver, size_t slot, refusals *refusals) {
-  const uint8_t *nothing = driver->slots[slot].end;
   text key = any_text(driver, slot);
-  otel_attribute made = {.key = key.bytes,
-                         .key_length = key.length,
-                         .kind = (uint32_t)(1 + any_below(driver, OTEL_BOOLS)),
-                         .truth = (uint32_t)any_below(driver, 3),
-                         .integer = (int64_t)any_number(driver),
-                         .number = any_double(driver),
-                         .bytes = nothing,
-                         .bytes_length = any_below(driver, 64),
-                         .lengths = (const uint64_t *)(const void *)nothing,
-                         .lengths_count = any_below(driver, 8),
-                         .integers = (const int64_t *)(const void *)nothing,
-                         .integers_count = any_below(driver, 8),
-                         .numbers = (const double *)(const void *)nothing,
-                         .numbers_count = any_below(driver, 8)};
+  otel_attribute made = unread_attribute(driver, &key, driver->slots[slot].end);
   refusals->owed[OTEL_NOT_UTF8] |= !key.is_utf8;
   if (is_one_in(driver, 32)) {
     made.kind = (uint32_t)(is_one_in(driver, 2) ? any_number(driver) : any_below(driver, 2) * KINDS);

@@ -100,7 +100,8 @@ void do_fork() {
 void do_refused() {
   try {
     otel::Service::from_environment();
-  } catch (const std::runtime_error &error) {
+  } catch (const otel::ServiceError &error) {
+    hold(error.status() == OTEL_SERVICE_HTTPS, "an error has its status");
     std::cout << error.what() << "\n";
   }
 }
