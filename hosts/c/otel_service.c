@@ -129,6 +129,8 @@ uint32_t otel_service_open(otel_service **service, const otel_service_options *o
     return OTEL_SERVICE_OUT_OF_MEMORY;
   }
   made->options = options == NULL ? otel_service_options_of_defaults() : *options;
+  made->options.interval += made->options.interval == 0 ? 1 : 0;
+  made->options.language = made->options.language == NULL ? "c" : made->options.language;
   made->state.socket = -1;
   if (!otel_private_make_condition(made)) {
     pthread_mutex_destroy(&made->mutex);
@@ -185,7 +187,7 @@ size_t otel_service_ignored_settings(otel_service *service, char *buffer, size_t
 /* Adds what the pipeline counts. */
 static void count(otel_service *service, otel_service_numbers *numbers) {
   otel_numbers inside = service->closed;
-  if (!service->state.is_closed && !service->state.is_forked) {
+  if (service->handle.is_open && !service->state.is_forked) {
     otel_count(&service->handle, &inside, sizeof inside);
   }
   *numbers = service->numbers;
@@ -216,7 +218,7 @@ static bool is_settled(const otel_service *service, uint64_t put) {
 }
 
 uint32_t otel_service_flush(otel_service *service, uint64_t milliseconds) {
-  uint64_t until = otel_private_milliseconds() + milliseconds;
+  uint64_t until = otel_private_after(milliseconds);
   lock(service);
   bool is_taken = !service->state.is_forked && otel_private_take(service, true);
   uint64_t put = service->put_lines;
@@ -287,9 +289,9 @@ uint32_t otel_service_close(otel_service *service, uint64_t milliseconds) {
     pthread_mutex_unlock(&service->mutex);
     return OTEL_OK;
   }
+  state->closing_by = otel_private_after(milliseconds);
   otel_private_take(service, true);
   otel_shutdown(&service->handle);
-  state->closing_by = otel_private_milliseconds() + milliseconds;
   state->is_closing = true;
   if (service->first != NULL && !state->has_thread) {
     otel_private_start_thread(service);

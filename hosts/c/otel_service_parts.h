@@ -20,7 +20,9 @@ void otel_private_add(otel_private_text *text, const char *bytes, size_t length)
 void otel_private_add_text(otel_private_text *text, const char *more);
 const char *otel_private_shown(const otel_private_text *text);
 bool otel_private_is_utf8(const char *bytes, size_t length);
+/* Of a clock that never goes back: now, and the moment after so many milliseconds, or after a century. */
 uint64_t otel_private_milliseconds(void);
+uint64_t otel_private_after(uint64_t wait);
 uint64_t otel_private_nanoseconds(void);
 bool otel_private_seed(uint64_t *seed);
 

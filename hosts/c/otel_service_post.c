@@ -120,6 +120,7 @@ static bool read_answer(otel_private_connection *connection, char *text, char **
   size_t length = 0, wanted = 0;
   char *head_end = NULL;
   long came = 1;
+  connection->fault = "the head of the answer is too long";
   while (came > 0 && length < ANSWER - 1) {
     came = otel_private_receive(connection, text + length, ANSWER - 1 - length);
     length += came > 0 ? (size_t)came : 0;

@@ -61,6 +61,11 @@ uint64_t otel_private_nanoseconds(void) {
 
 uint64_t otel_private_milliseconds(void) { return otel_private_nanoseconds() / 1000000; }
 
+uint64_t otel_private_after(uint64_t wait) {
+  const uint64_t century = (uint64_t)100 * 365 * 24 * 60 * 60 * 1000;
+  return otel_private_milliseconds() + (wait < century ? wait : century);
+}
+
 bool otel_private_seed(uint64_t *seed) {
   if (getentropy(seed, sizeof *seed) == 0) {
     return true;

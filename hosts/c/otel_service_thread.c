@@ -10,9 +10,8 @@
 enum { THREAD_PAUSE = 1000 };
 
 static void look_after(otel_service *service) {
-  uint64_t now = otel_private_milliseconds();
-  if (now >= service->state.next_look) {
-    service->state.next_look = now + service->options.interval;
+  if (otel_private_milliseconds() >= service->state.next_look) {
+    service->state.next_look = otel_private_after(service->options.interval);
     service->state.calls = 0;
     otel_private_take(service, false);
   }
@@ -60,8 +59,8 @@ static void try_later(otel_service *service, const otel_private_answer *answer) 
   otel_private_tries *tries = &service->tries;
   uint64_t longest = service->options.longest_wait;
   tries->tried++;
-  tries->next = otel_private_milliseconds() + at_most(answer->has_wait ? answer->wait : tries->pause, longest);
-  tries->pause = at_most(tries->pause * 2, longest);
+  tries->next = otel_private_after(at_most(answer->has_wait ? answer->wait : tries->pause, longest));
+  tries->pause = tries->pause < longest / 2 ? tries->pause * 2 : longest;
   memcpy(service->fault, answer->why, sizeof service->fault);
   if (!service->state.is_closing || tries->next < service->state.closing_by) {
     otel_private_note(service, OTEL_PRIVATE_AGAIN, "lines that wait, since one was not posted and is tried again",
@@ -97,7 +96,7 @@ static void settle(otel_service *service, const otel_private_answer *answer) {
 
 /* Posts the first line, without the lock while it waits. */
 static void post_first(otel_service *service, const char *line, size_t length) {
-  posting posting = {service, otel_private_milliseconds() + service->options.request_time};
+  posting posting = {service, otel_private_after(service->options.request_time)};
   otel_private_watch watch = {look_while_posting, &posting, note_socket};
   otel_private_answer answer;
   pthread_mutex_unlock(&service->mutex);

@@ -2,6 +2,7 @@
 """A stand-in for a collector, on the loopback, which answers as a test has it."""
 
 import json
+import re
 import socket
 import threading
 import time
@@ -14,6 +15,7 @@ def answer(status, *headers, body="{}", length=None):
 
 
 OK = answer(200)
+IS_TAKEN = re.compile(rb"HTTP/1\.[01] 2\d\d [^\0]*\r?\n\r?\n")
 # What is no answer: the connection stays, or ends at once.
 SILENCE, END = "silence", "end"
 
@@ -73,7 +75,7 @@ class Collector:
             if request:
                 self.requests.append(request)
             said = self.answers.pop(0) if len(self.answers) > 1 else self.answers[0]
-            if request and said not in (SILENCE, END) and said.split(b" ")[1].startswith(b"2"):
+            if request and said not in (SILENCE, END) and IS_TAKEN.match(said):
                 self.taken += request.spans()
         if said == SILENCE:
             self.held.append(connection)
