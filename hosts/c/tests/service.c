@@ -8,6 +8,7 @@
 
 #include <inttypes.h>
 #include <pthread.h>
+#include <stdatomic.h>
 #include <stdio.h>
 #include <stdlib.h>
 #include <sys/wait.h>
@@ -175,6 +176,53 @@ static void do_fork(const work_plan *plan) {
   close_and_print(service, plan);
 }
 
+typedef struct {
+  otel_service *service;
+  atomic_bool is_over;
+} busy;
+
+static void *trace_until_over(void *context) {
+  busy *it = context;
+  while (!it->is_over) {
+    trace(it->service, 0);
+    pause_for(1);
+  }
+  return NULL;
+}
+
+/* A child, and where it is told a child of that, which traces and closes; false where one did not end well. */
+static bool ends_well_in_child(otel_service *service, const work_plan *plan, bool has_grandchild) {
+  fflush(stdout);
+  pid_t child = fork();
+  if (child == 0) {
+    alarm(30);
+    trace_all(service, plan->spans);
+    bool is_well = !has_grandchild || ends_well_in_child(service, plan, false);
+    is_well = otel_service_close(service, plan->close_time) == OTEL_OK && is_well;
+    otel_service_free(service);
+    exit(is_well ? 0 : 1);
+  }
+  int status = -1;
+  return waitpid(child, &status, 0) == child && status == 0;
+}
+
+/* Children trace while threads of the parent do, which may hold a lock at the fork. */
+static void do_forks(const work_plan *plan) {
+  busy busy = {opened(plan), false};
+  pthread_t threads[2];
+  for (int i = 0; i < 2; i++) {
+    hold(pthread_create(&threads[i], NULL, trace_until_over, &busy) == 0, "there is a thread");
+  }
+  for (int i = 0; i < 20; i++) {
+    hold(ends_well_in_child(busy.service, plan, i % 4 == 0), "a child ended well");
+  }
+  busy.is_over = true;
+  for (int i = 0; i < 2; i++) {
+    pthread_join(threads[i], NULL);
+  }
+  close_and_print(busy.service, plan);
+}
+
 /* Children that end at once, or let go of the service before, leave all to their parent. */
 static void do_idle_children(const work_plan *plan) {
   otel_service *service = opened(plan);
@@ -300,16 +348,10 @@ int main(int count, char **words) {
   static const struct {
     const char *name;
     void (*work)(const work_plan *plan);
-  } works[] = {{"plain", do_plain},
-               {"flush", do_flush},
-               {"threads", do_threads},
-               {"calls", do_calls},
-               {"fork", do_fork},
-               {"exit", do_exit},
-               {"idle_children", do_idle_children},
-               {"open", do_open},
-               {"headers", do_headers},
-               {"refused", do_refused}};
+  } works[] = {
+      {"plain", do_plain}, {"flush", do_flush},     {"threads", do_threads}, {"calls", do_calls},
+      {"fork", do_fork},   {"forks", do_forks},     {"exit", do_exit},       {"idle_children", do_idle_children},
+      {"open", do_open},   {"headers", do_headers}, {"refused", do_refused}};
   work_plan plan = {otel_service_options_of_defaults(), 100, 5000};
   for (int i = 2; i < count; i++) {
     hold(read_word(&plan, words[i]), "each word is known");
