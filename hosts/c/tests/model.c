@@ -140,7 +140,10 @@ static void check_losses(driver *driver, const pipeline *pipeline, const otel_nu
   if (numbers->lost_spans < numbers->lost_batches) {
     fail(driver, "batches were lost that had no spans:", numbers->lost_batches);
   }
-  if (numbers->undrained_spans > pipeline->most_undrained) {
+  /* The limit is on spans that are not in lines yet: as many again may be in lines that were made and not handed out.
+   */
+  uint64_t most = numbers->undrained_bytes == 0 ? pipeline->most_undrained : 2 * pipeline->most_undrained;
+  if (numbers->undrained_spans > most) {
     fail(driver, "more spans are kept than may be:", numbers->undrained_spans);
   }
 }
