@@ -1,8 +1,9 @@
 # SPDX-License-Identifier: Apache-2.0
 """Builds the wheel of otel_proved, which has the shared library in it: the build backend that pyproject.toml names.
 
-The library is taken from the folder OTEL_C_DIR, or else from bin/ at the top of the repository. The backend needs
-nothing but Python, so that a wheel can be built where no package can be fetched.
+The library is taken from the folder OTEL_C_DIR, or else from bin/ at the top of the repository. The wheel is for the
+systems that the library runs on, as wheel_platform.py reads them from it. The backend needs nothing but Python, so that
+a wheel can be built where no package can be fetched.
 """
 
 import base64
@@ -11,6 +12,8 @@ import os
 import re
 import sysconfig
 import zipfile
+
+from wheel_platform import platform_of
 
 HERE = os.path.dirname(os.path.abspath(__file__))
 TOP = os.path.join(HERE, "..", "..")
@@ -69,27 +72,26 @@ def version():
     return re.search(r'(?m)^__version__ = "([^"]+)"$', text)[1]
 
 
-def tag():
-    """What can use the wheel: each Python 3, at a system such as this."""
-    return "py3-none-" + re.sub("[-.]", "_", sysconfig.get_platform())
+def tag(platform):
+    """What can use the wheel: each Python 3, at such a system."""
+    return f"py3-none-{platform}"
 
 
 def files():
-    """The path in the wheel and the bytes of each file but the list of them."""
+    """The path in the wheel and the bytes of each file of the package."""
     folder = os.path.join(HERE, PACKAGE)
     for name in sorted(os.listdir(folder)):
         if name.endswith(".py") or name == "py.typed":
             yield f"{PACKAGE}/{name}", bytes_of(folder, name)
     yield f"{PACKAGE}/{LIBRARY}", library()
-    yield from facts()
 
 
-def facts():
-    """The same of what is said about the package."""
+def facts(platform):
+    """The same of what is said about the package, but of the list of all files."""
     folder = f"{PACKAGE}-{version()}.dist-info"
     readme = bytes_of(HERE, "README.md").decode()
     yield f"{folder}/METADATA", METADATA.format(version=version(), readme=readme).encode()
-    yield f"{folder}/WHEEL", WHEEL.format(tag=tag()).encode()
+    yield f"{folder}/WHEEL", WHEEL.format(tag=tag(platform)).encode()
     for name in LICENCES:
         yield f"{folder}/licenses/{name}", bytes_of(TOP, name)
 
@@ -110,20 +112,21 @@ def write(archive, path, content):
 
 def build_wheel(wheel_directory, config_settings=None, metadata_directory=None):
     """Writes the wheel into a folder, and answers its name."""
-    return write_wheel(wheel_directory, list(files()))
+    return write_wheel(wheel_directory, list(files()), platform_of(library())[0])
 
 
 def build_editable(wheel_directory, config_settings=None, metadata_directory=None):
     """Writes a wheel that leads to this folder, for `pip install -e`. It has no library: that is found at its use."""
     lead = f"{PACKAGE}.pth", f"{HERE}\n".encode()
-    return write_wheel(wheel_directory, [lead, *facts()])
+    return write_wheel(wheel_directory, [lead], re.sub("[-.]", "_", sysconfig.get_platform()))
 
 
-def write_wheel(wheel_directory, found):
-    """Writes a wheel of these files, and answers its name."""
+def write_wheel(wheel_directory, found, platform):
+    """Writes a wheel of these files for a platform, and answers its name."""
+    found = [*found, *facts(platform)]
     record = f"{PACKAGE}-{version()}.dist-info/RECORD"
     rows = "".join(record_row(*it) for it in found) + f"{record},,\n"
-    name = f"{PACKAGE}-{version()}-{tag()}.whl"
+    name = f"{PACKAGE}-{version()}-{tag(platform)}.whl"
     with zipfile.ZipFile(os.path.join(wheel_directory, name), "w") as archive:
         for path, content in [*found, (record, rows.encode())]:
             write(archive, path, content)

@@ -40,7 +40,7 @@ class Wheel(unittest.TestCase):
         ran = self.build(self.folder)
         self.assertEqual(ran.returncode, 0, ran.stderr)
         name, = (it for it in os.listdir(self.folder) if it.endswith(".whl"))
-        self.assertRegex(name, r"^otel_proved-[0-9.]+-py3-none-linux_\w+\.whl$")
+        self.assertRegex(name, r"^otel_proved-[0-9.]+-py3-none-manylinux_2_[0-9]+_x86_64\.whl$")
         unpacked = os.path.join(self.folder, "unpacked")
         with zipfile.ZipFile(os.path.join(self.folder, name)) as archive:
             archive.extractall(unpacked)
