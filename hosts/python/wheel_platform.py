@@ -12,7 +12,7 @@ import sysconfig
 from collections import namedtuple
 
 DYNAMIC, DYNAMIC_SYMBOLS, NEEDED_VERSIONS, SYMBOL_VERSIONS = 6, 11, 0x6FFFFFFE, 0x6FFFFFFF
-NEEDED_LIBRARY = 1
+NEEDED_LIBRARY, OWN_NAME = 1, 14
 X86_64 = 62
 # What the C library of GNU is made of.
 C_LIBRARY = {"libc.so.6", "libm.so.6", "libpthread.so.0", "libdl.so.2", "librt.so.1", "ld-linux-x86-64.so.2"}
@@ -49,12 +49,12 @@ class Elf:
         begins = self.sections[section.link].offset + offset
         return self.data[begins : self.data.index(b"\0", begins)].decode("ascii", "replace")
 
-    def libraries(self):
-        """The names of the libraries that it needs."""
+    def names(self, wanted_tag):
+        """The names that it has under a tag: of the libraries that it needs, or its own."""
         section = self.section(DYNAMIC)
         places = range(section.offset, section.offset + section.size, 16) if section else ()
         entries = [struct.unpack_from("<qQ", self.data, it) for it in places]
-        return [self.text(section, value) for tag, value in entries if tag == NEEDED_LIBRARY]
+        return [self.text(section, value) for tag, value in entries if tag == wanted_tag]
 
     def versions(self):
         """The versions that it asks of libraries, by their numbers in the list of symbols' versions."""
@@ -98,7 +98,7 @@ def oldest_c_library(data):
     """The oldest C library that a shared library runs with, as two numbers, and the symbol that asks for it."""
     try:
         elf = Elf(data)
-        others = [it for it in elf.libraries() if it not in C_LIBRARY]
+        others = [it for it in elf.names(NEEDED_LIBRARY) if it not in C_LIBRARY]
         if others:
             raise Unreadable(f"it needs {others[0]}, which is no part of the C library")
         asked = [(wanted(version), symbol) for version, symbol in elf.askers().items()]
