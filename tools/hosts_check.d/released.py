@@ -15,6 +15,7 @@ import tarfile
 import tempfile
 
 from programs import TOP, Fault, LeftOut, environment, need, run
+from services import Collector
 
 SOURCES = f"{os.path.dirname(os.path.realpath(__file__))}/released"
 SECONDS = 300
@@ -26,8 +27,8 @@ COMPILERS = {"service.c": ("cc", "-std=c11"), "service.cpp": ("c++", "-std=c++17
 def parts(folder=None):
     """What is tried under each name, in order, of the release in a folder, or of one that is made of bin/ for this."""
     release = functools.lru_cache(None)(lambda: Release(folder))
-    calls = (Release.try_c, Release.try_cmake, Release.try_rust, Release.try_python, Release.try_programs,
-             Release.try_manual)
+    calls = (Release.try_c, Release.try_cmake, Release.try_posts, Release.try_rust, Release.try_python,
+             Release.try_programs, Release.try_manual)
     named = {f"release_{it.__name__.removeprefix('try_')}": it for it in calls}
     return {name: functools.partial(lambda call: call(release()), call) for name, call in named.items()}
 
@@ -142,12 +143,34 @@ class Release:
             raise LeftOut("cmake is not installed")
         folder = f"{self.room}/cmake"
         os.makedirs(folder, exist_ok=True)
-        for name in ("CMakeLists.txt", *COMPILERS):
+        for name in ("CMakeLists.txt", "posting.c", *COMPILERS):
             shutil.copy(f"{SOURCES}/{name}", folder)
         self.run(["cmake", "-S", folder, "-B", f"{folder}/out", f"-DCMAKE_PREFIX_PATH={self.top}"])
         self.run(["cmake", "--build", f"{folder}/out"])
         for name in ("c_otel_c", "c_shared", "cpp_otel_c", "cpp_shared"):
             hold_lines(self.run([f"{folder}/out/{name}"]))
+        if os.path.exists(f"{folder}/out/c_service"):
+            self.hold_posts([f"{folder}/out/c_service"])
+
+    def try_posts(self):
+        """Builds a service that posts its lines by itself, by pkg-config."""
+        if not os.path.exists(f"{self.top}/include/otel_service.h"):
+            raise LeftOut("the release has no otel_service.h")
+        flags = self.run(["pkg-config", "--cflags", "--libs", "otel_service"]).split()
+        words = ["cc", "-std=c11", *WARNINGS, self.source("posting.c"), "-o", f"{self.room}/posting", *flags]
+        self.run(words)
+        self.hold_posts([f"{self.room}/posting"], LD_LIBRARY_PATH=f"{self.top}/lib")
+
+    def hold_posts(self, words, **more):
+        """Looks whether a service posts its span to a stand-in for a collector."""
+        with tempfile.TemporaryDirectory(dir=self.room) as room:
+            collector = Collector(room)
+            endpoint = f"http://127.0.0.1:{collector.port}"
+            try:
+                self.run(words, OTEL_SERVICE_NAME="released", OTEL_EXPORTER_OTLP_ENDPOINT=endpoint, **more)
+            finally:
+                collector.end()
+            hold_lines("\n".join(it.decode() for it in collector.lines()))
 
     def try_rust(self):
         """Builds a package that has the crate in a folder of sources, without a network, over the library."""
