@@ -47,6 +47,15 @@ def environment(**more):
     return {**{name: it for name, it in os.environ.items() if not name.startswith(("MAKE", "CARGO_", "RUST"))}, **more}
 
 
+def copy_sources(package, folder):
+    """Copies the sources of a package, and nothing that was built of them, with the licences."""
+    for path in run(["git", "ls-files", "-z", "."], cwd=f"{TOP}/{package}").split("\0")[:-1]:
+        os.makedirs(os.path.dirname(f"{folder}/{path}"), exist_ok=True)
+        shutil.copy(f"{TOP}/{package}/{path}", f"{folder}/{path}")
+    for name in LICENCES:
+        shutil.copy(f"{TOP}/{name}", folder)
+
+
 class Release:
     """A release of a version, out of a folder with programs and libraries, of one moment."""
 
@@ -62,7 +71,9 @@ class Release:
 
     def write_archive(self, room, made):
         """Writes the archive for C and C++, with the programs, into the folder `made`."""
-        words = ["make", "-s", "-C", f"{TOP}/hosts/c", "install", f"DESTDIR={room}", f"PREFIX=/{self.name}"]
+        copy_sources("hosts/c", f"{room}/c")
+        # Without -g no path of this machine gets into what is compiled.
+        words = ["make", "-s", "-C", f"{room}/c", "install", f"DESTDIR={room}", f"PREFIX=/{self.name}", "CFLAGS=-O2"]
         run(words, env=environment(OTEL_C_DIR=self.built))
         folder = f"{room}/{self.name}"
         self.name_library(f"{folder}/lib")
@@ -78,7 +89,7 @@ class Release:
         pack(folder, f"{made}/{self.name}.tar.gz", self.moment)
 
     def name_library(self, folder):
-        """Has the shared library stand under its version, with links to it, where `make install` left it without."""
+        """Has the shared library stand under its own name, with a link to it, where `make install` left it without."""
         from wheel_platform import OWN_NAME, Elf
 
         with open(f"{folder}/{LIBRARY}", "rb") as file:
@@ -87,8 +98,7 @@ class Release:
         if own != [wanted]:
             raise Refusal(f"{LIBRARY} calls itself {own[0] if own else 'nothing'}, and not {wanted}")
         if not os.path.lexists(f"{folder}/{wanted}"):
-            os.rename(f"{folder}/{LIBRARY}", f"{folder}/{LIBRARY}.{self.version}")
-            os.symlink(f"{LIBRARY}.{self.version}", f"{folder}/{wanted}")
+            os.rename(f"{folder}/{LIBRARY}", f"{folder}/{wanted}")
             os.symlink(wanted, f"{folder}/{LIBRARY}")
 
     def write_pages(self, folder):
@@ -112,11 +122,7 @@ class Release:
     def write_crate(self, room, made):
         """Writes the crate for Rust: its sources with the licences, as cargo packs them."""
         folder = f"{room}/rust"
-        for path in run(["git", "ls-files", "-z", "."], cwd=f"{TOP}/hosts/rust").split("\0")[:-1]:
-            os.makedirs(os.path.dirname(f"{folder}/{path}"), exist_ok=True)
-            shutil.copy(f"{TOP}/hosts/rust/{path}", f"{folder}/{path}")
-        for name in LICENCES:
-            shutil.copy(f"{TOP}/{name}", folder)
+        copy_sources("hosts/rust", folder)
         words = ["cargo", "package", "--offline", "--no-verify", "--allow-dirty", "--quiet"]
         run([*words, "--target-dir", f"{room}/target"], cwd=folder, env=environment())
         name = f"otel_proved-{self.version}.crate"
