@@ -26,11 +26,28 @@ COMPILERS = {"service.c": ("cc", "-std=c11"), "service.cpp": ("c++", "-std=c++17
 
 def parts(folder=None):
     """What is tried under each name, in order, of the release in a folder, or of one that is made of bin/ for this."""
-    release = functools.lru_cache(None)(lambda: Release(folder))
+    release = once(lambda: Release(folder))
     calls = (Release.try_c, Release.try_cmake, Release.try_posts, Release.try_rust, Release.try_python,
              Release.try_programs, Release.try_manual)
     named = {f"release_{it.__name__.removeprefix('try_')}": it for it in calls}
     return {name: functools.partial(lambda call: call(release()), call) for name, call in named.items()}
+
+
+def once(make):
+    """What a call makes, or why it does not, for all who ask."""
+    made = []
+
+    def ask():
+        if not made:
+            try:
+                made.append(make())
+            except (Fault, OSError, ValueError, tarfile.TarError) as fault:
+                made.append(Fault(str(fault)))
+        if isinstance(made[0], Fault):
+            raise made[0]
+        return made[0]
+
+    return ask
 
 
 def only(pattern):
