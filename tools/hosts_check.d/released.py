@@ -21,7 +21,8 @@ SOURCES = f"{os.path.dirname(os.path.realpath(__file__))}/released"
 SECONDS = 300
 WARNINGS = ["-Wall", "-Wextra", "-Werror"]
 PROGRAMS = ("otel_trace", "otel_hello", "otel_shop", "otel_post")
-COMPILERS = {"service.c": ("cc", "-std=c11"), "service.cpp": ("c++", "-std=c++17")}
+COMPILERS = {".c": ("cc", "-std=c11"), ".cpp": ("c++", "-std=c++17")}
+CMAKE_SOURCES = ("CMakeLists.txt", "service.c", "service.cpp", "posting.c", "posting.cpp")
 
 
 def parts(folder=None):
@@ -136,9 +137,10 @@ class Release:
         need("pkg-config", "pkg-config")
         flags = self.run(["pkg-config", "--cflags", "--libs", "otel_c"]).split()
         compile_flags = [it for it in flags if not it.startswith(("-L", "-l"))]
-        for name, (compiler, standard) in COMPILERS.items():
+        for end, (compiler, standard) in COMPILERS.items():
             need(compiler, "g++")
-            words = [compiler, standard, *WARNINGS, "-pthread", self.source(name), "-o", f"{self.room}/service"]
+            source = self.source(f"service{end}")
+            words = [compiler, standard, *WARNINGS, "-pthread", source, "-o", f"{self.room}/service"]
             self.run([*words, *flags])
             needed = self.run(["ldd", f"{self.room}/service"], LD_LIBRARY_PATH=f"{self.top}/lib")
             if f"libotel_c.so.0 => {self.top}/lib/libotel_c.so.0" not in needed:
@@ -160,23 +162,24 @@ class Release:
             raise LeftOut("cmake is not installed")
         folder = f"{self.room}/cmake"
         os.makedirs(folder, exist_ok=True)
-        for name in ("CMakeLists.txt", "posting.c", *COMPILERS):
+        for name in CMAKE_SOURCES:
             shutil.copy(f"{SOURCES}/{name}", folder)
         self.run(["cmake", "-S", folder, "-B", f"{folder}/out", f"-DCMAKE_PREFIX_PATH={self.top}"])
         self.run(["cmake", "--build", f"{folder}/out"])
         for name in ("c_otel_c", "c_shared", "cpp_otel_c", "cpp_shared"):
             hold_lines(self.run([f"{folder}/out/{name}"]))
-        if os.path.exists(f"{folder}/out/c_service"):
-            self.hold_posts([f"{folder}/out/c_service"])
+        for name in ("c_service", "cpp_service"):
+            if os.path.exists(f"{folder}/out/{name}"):
+                self.hold_posts([f"{folder}/out/{name}"])
 
     def try_posts(self):
-        """Builds a service that posts its lines by itself, by pkg-config."""
+        """Builds services that post their lines by themselves, by pkg-config."""
         if not os.path.exists(f"{self.top}/include/otel_service.h"):
             raise LeftOut("the release has no otel_service.h")
         flags = self.run(["pkg-config", "--cflags", "--libs", "otel_service"]).split()
-        words = ["cc", "-std=c11", *WARNINGS, self.source("posting.c"), "-o", f"{self.room}/posting", *flags]
-        self.run(words)
-        self.hold_posts([f"{self.room}/posting"], LD_LIBRARY_PATH=f"{self.top}/lib")
+        for end, words in COMPILERS.items():
+            self.run([*words, *WARNINGS, self.source(f"posting{end}"), "-o", f"{self.room}/posting", *flags])
+            self.hold_posts([f"{self.room}/posting"], LD_LIBRARY_PATH=f"{self.top}/lib")
 
     def hold_posts(self, words, **more):
         """Looks whether a service posts its span to a stand-in for a collector."""
