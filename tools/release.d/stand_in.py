@@ -9,13 +9,20 @@ import subprocess
 TOP = os.path.dirname(os.path.dirname(os.path.dirname(os.path.realpath(__file__))))
 NEEDED = ("cc", "c++", "ar", "make", "cargo", "git", "pkg-config")
 PROGRAMS = ("otel_trace", "otel_hello", "otel_shop", "otel_post")
-TREES = ("hosts/c", "hosts/python", "hosts/rust", "tools/release.d", "tools/hosts_check.d")
+TREES = ("hosts/c", "hosts/python", "hosts/rust", "tools/release.d", "tools/hosts_check.d",
+         "tools/otlp_check")
 FILES = ("tools/release", "tools/release_check", "LICENSE", "NOTICE")
-# The line of the services of tools/hosts_check.d/released.
-LINE = (
-    '{"resourceSpans":[{"resource":{"attributes":[{"key":"service.name","value":{"stringValue":"released"}}]},'
-    '"scopeSpans":[{"spans":[{"name":"GET /cart","kind":2,"attributes":[{"key":"size","value":{"intValue":"3"}}]}]}]}]}'
-)
+# The line of the services of tools/hosts_check.d/released, in the form that an exporter writes.
+CUT = '"attributes":[],"droppedAttributesCount":0'
+IDS = f'"traceId":"{"1" * 32}","spanId":"{"2" * 16}","traceState":"","parentSpanId":"","flags":257'
+TIMES = '"startTimeUnixNano":"1000","endTimeUnixNano":"2000"'
+SIZE = '"attributes":[{"key":"size","value":{"intValue":"3"}}],"droppedAttributesCount":0'
+LISTS = '"events":[],"droppedEventsCount":0,"links":[],"droppedLinksCount":0,"status":{"message":"","code":0}'
+SPAN = f'{{{IDS},"name":"GET /cart","kind":2,{TIMES},{SIZE},{LISTS}}}'
+SCOPE = f'{{"scope":{{"name":"","version":"",{CUT}}},"spans":[{SPAN}],"schemaUrl":""}}'
+NAME = '{"key":"service.name","value":{"stringValue":"released"}}'
+RESOURCE = f'{{"attributes":[{NAME}],"droppedAttributesCount":0}}'
+LINE = f'{{"resourceSpans":[{{"resource":{RESOURCE},"scopeSpans":[{SCOPE}],"schemaUrl":""}}]}}'
 SPEAKS = r"""
 #include <string.h>
 static int is_drained;
