@@ -7,6 +7,7 @@ The services stand in released/, and the programs are given what the gate gives 
 import functools
 import glob
 import hashlib
+import importlib.util
 import json
 import os
 import shutil
@@ -122,6 +123,7 @@ class Release:
     def environment(self, **more):
         """The environment of somebody who has the release alone."""
         env = environment(PKG_CONFIG_PATH=f"{self.top}/lib/pkgconfig", **more)
+        env["PATH"] = ":".join(it for it in env["PATH"].split(":") if not f"{it}/".startswith(f"{TOP}/"))
         return {name: it for name, it in env.items() if TOP not in it}
 
     def source(self, name):
@@ -134,8 +136,7 @@ class Release:
 
     def try_c(self):
         """Builds services by pkg-config, over the shared and the static library."""
-        need("pkg-config", "pkg-config")
-        flags = self.run(["pkg-config", "--cflags", "--libs", "otel_c"]).split()
+        flags = self.flags("otel_c")
         compile_flags = [it for it in flags if not it.startswith(("-L", "-l"))]
         for end, (compiler, standard) in COMPILERS.items():
             need(compiler, "g++")
@@ -149,6 +150,12 @@ class Release:
             self.run([*words, *compile_flags, f"{self.top}/lib/libotel_c.a"])
             hold_lines(self.run([f"{self.room}/service"]))
         return self.hold_version(self.run(["pkg-config", "--modversion", "otel_c"]).strip())
+
+    def flags(self, package):
+        """What pkg-config says of a package."""
+        if not shutil.which("pkg-config"):
+            raise LeftOut("pkg-config is not installed")
+        return self.run(["pkg-config", "--cflags", "--libs", package]).split()
 
     def hold_version(self, said):
         """Looks whether the version of pkg-config is that of the release."""
@@ -176,7 +183,7 @@ class Release:
         """Builds services that post their lines by themselves, by pkg-config."""
         if not os.path.exists(f"{self.top}/include/otel_service.h"):
             raise LeftOut("the release has no otel_service.h")
-        flags = self.run(["pkg-config", "--cflags", "--libs", "otel_service"]).split()
+        flags = self.flags("otel_service")
         for end, words in COMPILERS.items():
             self.run([*words, *WARNINGS, self.source(f"posting{end}"), "-o", f"{self.room}/posting", *flags])
             self.hold_posts([f"{self.room}/posting"], LD_LIBRARY_PATH=f"{self.top}/lib")
@@ -213,6 +220,8 @@ class Release:
 
     def try_python(self):
         """Installs the wheel into a new environment, without a network."""
+        if not importlib.util.find_spec("ensurepip"):
+            raise LeftOut("this Python has no ensurepip, and makes no environment that has pip")
         python = f"{self.room}/venv/bin/python"
         self.run([sys.executable, "-m", "venv", f"{self.room}/venv"])
         wheel = only(f"{self.folder}/otel_proved-*.whl")

@@ -15,6 +15,7 @@ sys.path.append(f"{TOP}/hosts/python")
 PROGRAMS = ("otel_trace", "otel_hello", "otel_shop", "otel_post")
 LICENCES = ("LICENSE", "NOTICE")
 LIBRARY = "libotel_c.so"
+DECIDING = ("MAKEFLAGS", "MFLAGS", "MAKELEVEL", "CPPFLAGS", "LDFLAGS", "RUSTFLAGS", "CARGO_ENCODED_RUSTFLAGS")
 README = f"{os.path.dirname(os.path.realpath(__file__))}/README.md"
 
 
@@ -43,8 +44,8 @@ def run(words, **how):
 
 
 def environment(**more):
-    """The environment of what is run: without what a calling make or cargo says."""
-    return {**{name: it for name, it in os.environ.items() if not name.startswith(("MAKE", "CARGO_", "RUST"))}, **more}
+    """The environment of what is run: without what else would decide how things are compiled."""
+    return {**{name: it for name, it in os.environ.items() if name not in DECIDING}, **more}
 
 
 def copy_sources(package, folder):
