@@ -215,7 +215,8 @@ class Release:
         write(f"{folder}/.cargo/config.toml", f"{replaced}directory = {json.dumps(sources)}\n")
         os.makedirs(f"{folder}/src", exist_ok=True)
         shutil.copy(f"{SOURCES}/service.rs", f"{folder}/src/main.rs")
-        run(["cargo", "build", "--offline", "--quiet"], SECONDS, cwd=folder, env=self.environment())
+        words = ["cargo", "build", "--offline", "--quiet", "--target-dir", f"{folder}/target"]
+        run(words, SECONDS, cwd=folder, env=self.environment())
         hold_lines(self.run([f"{folder}/target/debug/service"], LD_LIBRARY_PATH=f"{self.top}/lib"))
 
     def try_python(self):
