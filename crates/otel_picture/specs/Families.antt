@@ -1,6 +1,6 @@
 -- Spans by trace, and within a trace who is whose parent.
-use Rattle.std.specs.Prelude.{ℕ, zero, suc, Bool, false, List, [], ◌∷◌, ◌++◌, ◌==◌, Option, None, get_or, length, map, nat_eq}
-use Rattle.std.specs.Prelude.{if◌then◌else◌, position}
+use Rattle.std.specs.Prelude.{ℕ, zero, suc, Bool, false, List, [], ◌∷◌, ◌++◌, ◌==◌, ◌<◌, Option, None, get_or, length, map}
+use Rattle.std.specs.Prelude.{All, nat_eq, if◌then◌else◌, position}
 use Rattle.std.specs.List.{fold}
 use Rattle.opentelemetry.specs.Plain.{unset}
 use Rattle.opentelemetry.specs.declared.trace.span_kind.SpanKind.TheVariants as kinds
@@ -52,6 +52,10 @@ mark_of place span = record {
 
 abbrev pub marks_at : List PlainShownSpan → List ℕ → List Mark
 marks_at spans places = map (λ place. mark_of place (span_at spans place)) places
+
+-- the span of each mark is there
+abbrev pub HaveSpans : List PlainShownSpan → List Mark → Type 0
+HaveSpans spans marks = All (λ mark. mark.place < length spans) marks
 
 -- the marks of a trace's spans, in order
 abbrev pub marks_in : List PlainShownSpan → ℕ → List Mark

@@ -1,8 +1,8 @@
 -- Traces as they are drawn.
-use Rattle.std.specs.Prelude.{◌≡◌, ◌<◌, ℕ, List, All, length}
+use Rattle.std.specs.Prelude.{◌≡◌, ℕ, List, All, length}
 use Rattle.std.specs.List.{AllZip}
 use Rattle.otel_shown.specs.Shown.{PlainShownSpan}
-use Rattle.otel_picture.specs.Families.{is_of, marks_at, places_below, trace_ids}
+use Rattle.otel_picture.specs.Families.{HaveSpans, is_of, marks_at, places_below, trace_ids}
 use Rattle.otel_picture.specs.Placed.{AreRows}
 use Rattle.otel_picture.specs.declared.rows.Mark.{Mark}
 use Rattle.otel_picture.specs.declared.rows.Row.{Row}
@@ -21,11 +21,15 @@ plain_trace trace = record {
   rows = trace.rows.items;
 }
 
+-- the spans of all traces are there
+abbrev pub AllHaveSpans : List PlainShownSpan → List Trace → Type 0
+AllHaveSpans spans traces = All (λ trace. HaveSpans spans trace.family.marks.items) traces
+
 -- the trace of this id, whose spans stand at these places
 pub record IsTraceAt (spans : List PlainShownSpan) (trace_id : ℕ) (places : List ℕ) (trace : PlainTrace) : Type 0 where
   pub id : trace.trace_id ≡ trace_id
   pub marks : trace.marks ≡ marks_at spans places
-  pub there : All (λ mark. mark.place < length spans) trace.marks
+  pub there : HaveSpans spans trace.marks
   pub rows : AreRows trace.marks trace.rows
 
 -- the trace of an id: it has all spans of that

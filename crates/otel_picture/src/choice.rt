@@ -3,6 +3,7 @@
 ghost use Rattle.std.specs.Prelude.{◌≡◌, ◌<◌, All, IfOk, length, map};
 ghost use Rattle.std.specs.List.{filter};
 ghost use Rattle.std.specs.List.Sorted.{IsPermutation, IsSortedBy};
+ghost use Rattle.otel_picture.specs.Families.{HaveSpans};
 ghost use Rattle.otel_picture.specs.Choices.{
   IsChosen,
   first_place,
@@ -13,7 +14,7 @@ ghost use Rattle.otel_picture.specs.Choices.{
   trace_length,
 };
 ghost use Rattle.otel_picture.specs.Drawn.{plain_traces};
-ghost use Rattle.otel_picture.specs.Traces.{plain_trace};
+ghost use Rattle.otel_picture.specs.Traces.{AllHaveSpans, plain_trace};
 
 use crate::bar::Scale;
 use crate::sheet::is_error;
@@ -44,7 +45,7 @@ pub const EVERY: Choice = Choice {
 
 /// Whether a span of a trace failed.
 fn has_error(spans: &[ShownSpan], trace: &Trace) -> bool
-    requires { All (λ mark. mark.place < length spans.now) trace.now.family.marks.items }
+    requires { HaveSpans spans.now trace.now.family.marks.items }
     ensures { result ≡ has_error spans.now (plain_trace trace.now) }
 {
     for mark in &trace.family.marks {
@@ -95,7 +96,7 @@ fn sort_by_length(traces: &mut Vec<Trace>)
 impl Choice {
     /// Whether a trace may be drawn, whatever its length.
     fn takes(&self, spans: &[ShownSpan], trace: &Trace) -> bool
-        requires { All (λ mark. mark.place < length spans.now) trace.now.family.marks.items }
+        requires { HaveSpans spans.now trace.now.family.marks.items }
         ensures { result ≡ is_chosen self.now spans.now (plain_trace trace.now) }
     {
         has_id(self.trace_id, trace) && (!self.errors_only || has_error(spans, trace))
@@ -108,12 +109,10 @@ impl Choice {
         spans: &[ShownSpan],
         traces: Vec<Trace>,
     ) -> Result<Vec<Trace>, AllocError>
-        requires there { All (λ trace. All (λ mark. mark.place < length spans.now) trace.family.marks.items)
-            traces.items }
+        requires there { AllHaveSpans spans.now traces.items }
         ensures is { IfOk result (λ taken. map plain_trace taken.items
             ≡ filter (is_chosen self.now spans.now) (map plain_trace traces.items)) }
-        ensures there { IfOk result (λ taken.
-            All (λ trace. All (λ mark. mark.place < length spans.now) trace.family.marks.items) taken.items) }
+        ensures there { IfOk result (λ taken. AllHaveSpans spans.now taken.items) }
     {
         let mut taken = Vec::new(alloc);
         for trace in traces {

@@ -2,6 +2,7 @@
 
 ghost use Rattle.std.specs.Prelude.{◌≡◌, ◌<◌, All, count_by, length};
 ghost use Rattle.opentelemetry.specs.PlainValues.{plain_status};
+ghost use Rattle.otel_picture.specs.Families.{HaveSpans};
 ghost use Rattle.otel_picture.specs.Orders.{mark_at};
 ghost use Rattle.otel_picture.specs.PlainSheets.{are_mixed, first_service, is_error, is_orphan, sheet_of, span_of};
 
@@ -22,7 +23,7 @@ pub(crate) struct Sheet<'a> {
     pub(crate) scale: Scale,
     /// Whether its spans are of more services than one.
     pub(crate) is_mixed: bool,
-    ghost there: { All (λ mark. mark.place < length spans.now) trace.now.family.marks.items },
+    ghost there: { HaveSpans spans.now trace.now.family.marks.items },
     ghost bars: { scale.columns ≡ layout.bar },
 }
 
@@ -35,7 +36,7 @@ pub(crate) fn is_error(status: &Status) -> bool
 
 /// The service of the first span of a trace; empty where it has none.
 pub(crate) fn first_service<'a>(spans: &'a [ShownSpan], marks: &[Mark]) -> &'a str
-    requires { All (λ mark. mark.place < length spans.now) marks.now }
+    requires { HaveSpans spans.now marks.now }
     ensures { result.now ≡ first_service spans.now marks.now }
 {
     match marks.first() {
@@ -49,7 +50,7 @@ pub(crate) fn first_service<'a>(spans: &'a [ShownSpan], marks: &[Mark]) -> &'a s
 
 /// Whether the spans of a trace are of more services than one.
 fn are_mixed(spans: &[ShownSpan], marks: &[Mark]) -> bool
-    requires { All (λ mark. mark.place < length spans.now) marks.now }
+    requires { HaveSpans spans.now marks.now }
     ensures { result ≡ are_mixed spans.now marks.now }
 {
     let first = first_service(spans, marks);
@@ -68,7 +69,7 @@ impl<'a> Sheet<'a> {
 
     pub(crate) fn of(spans: &'a [ShownSpan], trace: &'a Trace, layout: Layout) -> Sheet<'a>
         requires wide { 0 < layout.bar }
-        requires there { All (λ mark. mark.place < length spans.now) trace.now.family.marks.items }
+        requires there { HaveSpans spans.now trace.now.family.marks.items }
         ensures { plain_sheet result ≡ sheet_of layout spans.now (plain_trace trace.now) }
     {
         let marks = trace.family.marks.as_slice();

@@ -14,7 +14,7 @@ ghost use Rattle.otel_picture.specs.Summaries.{
   text_member,
   time_members,
 };
-ghost use Rattle.otel_picture.specs.Traces.{plain_trace};
+ghost use Rattle.otel_picture.specs.Traces.{AllHaveSpans, plain_trace};
 
 use crate::layout::Layout;
 use crate::sheet::Sheet;
@@ -115,7 +115,7 @@ impl Sheet<'_> {
 
 /// A line a trace.
 fn summary_of(alloc: Global, spans: &[ShownSpan], traces: &[Trace]) -> Result<Vec<u8>, AllocError>
-    requires { All (λ trace. All (λ mark. mark.place < length spans.now) trace.family.marks.items) traces.now }
+    requires { AllHaveSpans spans.now traces.now }
     ensures { IfOk result (λ lines. lines.items ≡ summary_lines spans.now (map plain_trace traces.now)) }
 {
     let mut lines = Vec::new(alloc);

@@ -21,7 +21,7 @@ ghost use Rattle.otel_picture.specs.SvgTexts.{
   svg_trace,
   svg_traces,
 };
-ghost use Rattle.otel_picture.specs.Traces.{plain_trace};
+ghost use Rattle.otel_picture.specs.Traces.{AllHaveSpans, plain_trace};
 
 use crate::durations::push_duration;
 use crate::layout::Layout;
@@ -175,7 +175,7 @@ fn push_svg_traces(
     spans: &[ShownSpan],
     traces: &[Trace],
 ) -> Result<(), AllocError>
-    requires { All (λ trace. All (λ mark. mark.place < length spans.now) trace.family.marks.items) traces.now }
+    requires { AllHaveSpans spans.now traces.now }
     ensures { OnOk result (TextGrows out.old (svg_traces spans.now 0 (map plain_trace traces.now)) out.new) }
 {
     let mut line = 0;

@@ -1,7 +1,7 @@
 //! Traces as they are drawn: of each its spans, and a row a span.
 
 ghost use Rattle.std.specs.Prelude.{◌<◌, All, IfOk, length, map};
-ghost use Rattle.otel_picture.specs.Traces.{AreTraces, IsTraceAt, plain_trace};
+ghost use Rattle.otel_picture.specs.Traces.{AllHaveSpans, AreTraces, IsTraceAt, plain_trace};
 
 use crate::families::{Group, family_of, groups_of};
 use crate::rows::rows;
@@ -14,7 +14,7 @@ use std::alloc::{AllocError, Global};
 pub struct Traces<'a> {
     pub(crate) spans: &'a [ShownSpan],
     pub(crate) traces: Vec<Trace>,
-    ghost there: { All (λ trace. All (λ mark. mark.place < length spans.now) trace.family.marks.items) traces.items },
+    ghost there: { AllHaveSpans spans.now traces.items },
 }
 
 fn trace_of(alloc: Global, spans: &[ShownSpan], group: &Group) -> Result<Trace, AllocError>

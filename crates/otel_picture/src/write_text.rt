@@ -22,7 +22,7 @@ ghost use Rattle.otel_picture.specs.RowTexts.{
 };
 ghost use Rattle.otel_picture.specs.PlainSheets.{errors_in};
 ghost use Rattle.otel_picture.specs.Sheets.{plain_sheet};
-ghost use Rattle.otel_picture.specs.Traces.{plain_trace};
+ghost use Rattle.otel_picture.specs.Traces.{AllHaveSpans, plain_trace};
 
 use crate::durations::push_duration;
 use crate::layout::Layout;
@@ -194,7 +194,7 @@ fn push_traces(
     layout: Layout,
 ) -> Result<(), AllocError>
     requires wide { 0 < layout.bar }
-    requires there { All (λ trace. All (λ mark. mark.place < length spans.now) trace.family.marks.items) traces.now }
+    requires there { AllHaveSpans spans.now traces.now }
     ensures { OnOk result (TextGrows text.old
         (traces_text layout spans.now true (map plain_trace traces.now)) text.new) }
 {

@@ -1,14 +1,14 @@
 -- The lines so far, and those of the traces that are left.
-use Rattle.std.proofs.Common.{◌≡◌, ◌<◌, ◌++◌, All, length, map}
+use Rattle.std.proofs.Common.{◌≡◌, ◌++◌, length, map}
 use Rattle.otel_picture.specs.Summaries.{summary_lines}
-use Rattle.otel_picture.specs.Traces.{plain_trace}
+use Rattle.otel_picture.specs.Traces.{AllHaveSpans, plain_trace}
 use Rattle.otel_picture.proofs.summary.summary_of.Given as goal
 
 abbrev pub invariant-loop-trace : goal.invariant-loop-trace
 invariant-loop-trace l = record {
   text : l.lines.items ++ summary_lines l.spans (map plain_trace l.left)
       ≡ summary_lines l.spans (map plain_trace l.fn.traces);
-  there : All (λ trace. All (λ mark. mark.place < length l.spans) trace.family.marks.items) l.left;
+  there : AllHaveSpans l.spans l.left;
 }
 
 abbrev pub decreases-loop-trace : goal.decreases-loop-trace

@@ -1,14 +1,14 @@
 -- The traces so far, and those that are left.
-use Rattle.std.proofs.Common.{◌≡◌, ◌<◌, ◌++◌, All, length, map, string_bytes}
+use Rattle.std.proofs.Common.{◌≡◌, ◌++◌, length, map, string_bytes}
 use Rattle.otel_picture.specs.SvgTexts.{svg_traces}
-use Rattle.otel_picture.specs.Traces.{plain_trace}
+use Rattle.otel_picture.specs.Traces.{AllHaveSpans, plain_trace}
 use Rattle.otel_picture.proofs.svg.push_svg_traces.Given as goal
 
 abbrev pub invariant-loop-trace : goal.invariant-loop-trace
 invariant-loop-trace l = record {
   text : string_bytes l.out ++ svg_traces l.spans l.line (map plain_trace l.left)
       ≡ string_bytes l.fn.out ++ svg_traces l.spans 0 (map plain_trace l.fn.traces);
-  there : All (λ trace. All (λ mark. mark.place < length l.spans) trace.family.marks.items) l.left;
+  there : AllHaveSpans l.spans l.left;
 }
 
 abbrev pub decreases-loop-trace : goal.decreases-loop-trace

@@ -1,12 +1,12 @@
 -- Those so far that may be drawn.
-use Rattle.std.proofs.Common.{◌≡◌, ◌<◌, All, length, map}
+use Rattle.std.proofs.Common.{◌≡◌, map}
 use Rattle.std.specs.List.{filter}
 use Rattle.otel_picture.specs.Choices.{is_chosen}
-use Rattle.otel_picture.specs.Traces.{plain_trace}
+use Rattle.otel_picture.specs.Traces.{AllHaveSpans, plain_trace}
 use Rattle.otel_picture.proofs.choice.Choice.taken.Given as goal
 
 abbrev pub invariant-loop-trace : goal.invariant-loop-trace
 invariant-loop-trace l = record {
   is : map plain_trace l.taken.items ≡ filter (is_chosen l.self l.spans) (map plain_trace l.yielded);
-  there : All (λ trace. All (λ mark. mark.place < length l.spans) trace.family.marks.items) l.taken.items;
+  there : AllHaveSpans l.spans l.taken.items;
 }
