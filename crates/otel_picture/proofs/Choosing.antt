@@ -1,6 +1,6 @@
 -- Traces that are chosen, and the longest of them.
-use Rattle.std.proofs.Common.{◌≡◌, ◌<◌, ◌≤◌, ◌+◌, ◌==◌, ◌&&◌, ◌||◌, ◌++◌, ◌∷◌, [], ◌∙◌, ℕ, Bool, true, false, List}
-use Rattle.std.proofs.Common.{Option, Some, None, ap, arith, get_or, is_lt, length, map, nat_cmp, nat_lt, refl, subst, sym}
+use Rattle.std.proofs.Common.{◌≡◌, ◌<◌, ◌≤◌, ◌+◌, ◌==◌, ◌++◌, ◌∷◌, [], ◌∙◌, ℕ, Bool, true, false, List}
+use Rattle.std.proofs.Common.{Option, Some, None, ap, arith, get_or, is_lt, length, map, nat_cmp, nat_lt, subst, sym}
 use Rattle.std.proofs.Common.{take}
 use Rattle.std.proofs.lemmas.List.{get_or-map, length-map, map-append, take-map}
 use Rattle.std.proofs.lemmas.List.Elements.{filter-append}
@@ -9,10 +9,10 @@ use Rattle.std.specs.Prelude.{if◌then◌else◌}
 use Rattle.std.specs.List.{filter}
 use Rattle.std.specs.List.Sorted.{IsPermutation, IsSortedBy}
 use Rattle.std.specs.Ordering.{ordering_then}
-use Rattle.std.specs.declared.cmp.Ordering.TheVariants.{Less, Equal, Greater}
 use Rattle.otel_picture.specs.Choices.{AreLeft, first_place, is_slower, trace_length}
 use Rattle.otel_picture.specs.Traces.{PlainTrace, plain_trace}
 use Rattle.otel_picture.specs.declared.trace.Trace.{Trace}
+use Rattle.otel_picture.proofs.Ordering.{compared}
 
 -- one more that passes
 pub chosen_more : (test : PlainTrace → Bool) (taken yielded new : List Trace) (trace : Trace) → new ≡ taken ++ trace ∷ []
@@ -45,14 +45,6 @@ left_all slowest chosen taken asked e =
     subst (λ (s : Option ℕ). AreLeft s chosen (map plain_trace taken)) (sym asked) e
 
 -- how two keys of a length and a place compare
-compared : (l e m f : Bool) → is_lt (ordering_then (if l then Less else (if e then Equal else Greater))
-    (if m then Less else (if f then Equal else Greater))) ≡ (l || (e && m))
-compared true e m f = refl
-compared false true true f = refl
-compared false true false true = refl
-compared false true false false = refl
-compared false false m f = refl
-
 slower_compared : (trace other : PlainTrace)
     → is_lt (ordering_then (nat_cmp (trace_length other) (trace_length trace))
     (nat_cmp (first_place trace) (first_place other))) ≡ is_slower trace other

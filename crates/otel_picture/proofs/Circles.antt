@@ -1,9 +1,9 @@
 -- Circles of parents: a walk up that never ends goes round one.
 use Rattle.std.proofs.Common.{◌≡◌, ◌<◌, ◌≤◌, ◌+◌, ◌-◌, ◌==◌, ◌⊎◌, ◌∙◌, inl, inr, ℕ, zero, suc, false, Option, Some}
-use Rattle.std.proofs.Common.{true, None, List, sym, subst, ap, refl, arith, if◌then◌else◌, option_and_then, add-one}
+use Rattle.std.proofs.Common.{true, None, List, length, sym, subst, ap, refl, arith, if◌then◌else◌, option_and_then, add-one}
 use Rattle.std.proofs.lemmas.Bool.{cases_eq, cases_lt, eq-eqb, false≢true, ne_eqb}
 use Rattle.otel_picture.specs.Orders.{IsHead, comes_before}
-use Rattle.otel_picture.specs.Parents.{HasAncestors, ancestor, parent_of}
+use Rattle.otel_picture.specs.Parents.{AreKnown, HasAncestors, ancestor, parent_of}
 use Rattle.otel_picture.specs.declared.rows.Mark.{Mark}
 use Rattle.otel_picture.proofs.Ordering.{before_total, not_before, not_both, not_itself}
 
@@ -18,7 +18,7 @@ ancestor_more parents (suc more) steps span above e =
     ∙ ap (λ (o : Option ℕ). option_and_then (parent_of parents) o) (ancestor_more parents more steps span above e)
 
 -- a step up ends a walk of one more
-middle : (parents : List (Option ℕ)) (steps span above : ℕ) (so_far : Option ℕ) → ancestor parents steps span ≡ so_far
+pub middle : (parents : List (Option ℕ)) (steps span above : ℕ) (so_far : Option ℕ) → ancestor parents steps span ≡ so_far
     → option_and_then (parent_of parents) so_far ≡ Some above
     → (below : ℕ) × (ancestor parents steps span ≡ Some below) × (parent_of parents below ≡ Some above)
 middle parents steps span above None e h = let no : None ≡ Some above = h in absurd cc
@@ -222,7 +222,7 @@ first_alone marks parents span = λ count other l e.
     ap (λ n. comes_before marks n span) (sym is) ∙ not_itself marks span
 
 -- a way on round a circle leads back
-way_back : (parents : List (Option ℕ)) (round steps span above : ℕ) → ancestor parents (suc round) span ≡ Some span
+pub way_back : (parents : List (Option ℕ)) (round steps span above : ℕ) → ancestor parents (suc round) span ≡ Some span
     → ancestor parents steps span ≡ Some above → (back : ℕ) × (ancestor parents back above ≡ Some span)
 way_back parents round steps span above circle e =
     let near = within_round parents steps round steps span above (omega arith) circle e in
@@ -241,3 +241,48 @@ one_head marks parents steps head other first e also = elim (cases_eq other head
       absurd (false≢true (sym (also.first back.0 head back.1)
       ∙ before_total marks other head different (first.first steps other e)))
 ]
+
+-- a span without a parent is of no circle, nor under one
+top_ends : (parents : List (Option ℕ)) (steps span : ℕ) → parent_of parents span ≡ None
+    → ancestor parents (suc steps) span ≡ None
+top_ends parents zero span e = e
+top_ends parents (suc steps) span e =
+    ap (λ (o : Option ℕ). option_and_then (parent_of parents) o) (top_ends parents steps span e)
+
+-- round a circle each span has a parent
+pub has_parent : (parents : List (Option ℕ)) (round steps span above : ℕ)
+    → ancestor parents (suc round) span ≡ Some span → ancestor parents steps span ≡ Some above
+    → parent_of parents above ≡ None → ⊥
+has_parent parents round steps span above circle e none =
+    let no : Some above ≡ None =
+    sym (round_above parents (suc round) steps span above circle e) ∙ top_ends parents round above none in
+    absurd cc
+
+parent_by : (parents : List (Option ℕ)) (span : ℕ) (parent : Option ℕ) → parent_of parents span ≡ parent
+    → (parent_of parents span ≡ None → ⊥) → (above : ℕ) × (parent_of parents span ≡ Some above)
+parent_by parents span None e some = absurd (some e)
+parent_by parents span (Some above) e some = (above, e)
+
+-- a walk round a circle goes on
+pub walks_round : (parents : List (Option ℕ)) (round span : ℕ) → AreKnown parents → span < length parents
+    → ancestor parents (suc round) span ≡ Some span → (steps : ℕ)
+    → (above : ℕ) × (ancestor parents steps span ≡ Some above) × (above < length parents)
+walks_round parents round span known there circle zero = (span, refl, there)
+walks_round parents round span known there circle (suc steps) =
+    let so_far = walks_round parents round span known there circle steps in
+    let next = parent_by parents so_far.0 _ refl (has_parent parents round steps span so_far.0 circle so_far.1) in (
+      next.0,
+      ap (λ (o : Option ℕ). option_and_then (parent_of parents) o) so_far.1 ∙ next.1,
+      known so_far.0 next.0 next.1,
+    )
+
+-- a circle has no more spans than there are
+pub short_round : (parents : List (Option ℕ)) (round span : ℕ) → AreKnown parents → span < length parents
+    → ancestor parents (suc round) span ≡ Some span
+    → (steps : ℕ) × (steps < length parents) × (ancestor parents (suc steps) span ≡ Some span)
+short_round parents round span known there circle =
+    let walk = walks_round parents round span known there circle in
+    let last = walk (length parents) in
+    let around = goes_round parents (length parents) span last.0 walk last.1 in
+    let back = way_back parents round (length parents) span last.0 circle last.1 in
+    (around.0, around.1, round_above parents (suc around.0) back.0 last.0 span around.2 back.1)

@@ -1,8 +1,10 @@
 -- A row put in keeps siblings in order.
 use Rattle.std.proofs.Common.{◌≡◌, ◌<◌, ◌≤◌, ◌⊎◌, inl, inr, ℕ, zero, suc, Bool, true, false, Option, Some, None, List}
 use Rattle.std.proofs.Common.{[], ◌∷◌, ◌+◌, ◌==◌, ◌&&◌, ◌||◌, ◌∙◌, get_or, length, sym, ap, refl, arith, insert, take, drop}
-use Rattle.std.proofs.Common.{nat_lt, if◌then◌else◌}
+use Rattle.std.proofs.Common.{is_lt, nat_lt, if◌then◌else◌}
 use Rattle.std.specs.List.{AllByRecursion}
+use Rattle.std.specs.Ordering.{ordering_then}
+use Rattle.std.specs.declared.cmp.Ordering.TheVariants.{Less, Equal, Greater}
 use Rattle.std.proofs.lemmas.Bool.{cases_eq, cases_lt, eq-eqb, false≢true, le-ltb, lt-ltb, ne_eqb}
 use Rattle.std.proofs.lemmas.List.Sums.{sum_by-cons}
 use Rattle.otel_picture.specs.Orders.{AreInOrder, Precedes, comes_before, start_at}
@@ -15,7 +17,7 @@ use Rattle.otel_picture.specs.declared.rows.Row.{Row}
 abbrev is_first : (s t a b : ℕ) → Bool
 is_first s t a b = nat_lt s t || ((s == t) && nat_lt a b)
 
-true_or_false : (b : Bool) → (b ≡ true) ⊎ (b ≡ false)
+pub true_or_false : (b : Bool) → (b ≡ true) ⊎ (b ≡ false)
 true_or_false true = inl refl
 true_or_false false = inr refl
 
@@ -232,3 +234,12 @@ roots_after marks parents (r ∷ rows) zero row none h k =
     (λ siblings. first.1, later_rest marks parents rows r row none first.0 first.1 k.0)
 roots_after marks parents (r ∷ rows) (suc at) row none h k =
     roots_after marks parents rows at row none (λ l. h (omega (arith, l))) k.1
+
+-- how two keys of two numbers compare
+pub compared : (l e m f : Bool) → is_lt (ordering_then (if l then Less else (if e then Equal else Greater))
+    (if m then Less else (if f then Equal else Greater))) ≡ (l || (e && m))
+compared true e m f = refl
+compared false true true f = refl
+compared false true false true = refl
+compared false true false false = refl
+compared false false m f = refl

@@ -1,22 +1,22 @@
 -- Rows as they are put in: what holds of those so far holds of one more.
-use Rattle.std.proofs.Common.{◌≡◌, ◌<◌, ◌≤◌, ◌⊎◌, inl, inr, ℕ, suc, Bool, true, false, Option, Some, None, List}
+use Rattle.std.proofs.Common.{◌≡◌, ◌<◌, ◌≤◌, ◌⊎◌, inl, inr, ℕ, suc, Bool, true, false, Option, Some, List}
 use Rattle.std.proofs.Common.{[], ◌∷◌, ◌+◌, ◌==◌, ◌∙◌, if◌then◌else◌, get_or, set, length, sym, subst, ap, refl, arith}
-use Rattle.std.proofs.Common.{All, insert, count_by, take, drop, add-one, ◌&&◌}
+use Rattle.std.proofs.Common.{All, insert, count_by, take, drop, add-one}
 use Rattle.std.specs.List.{AllByRecursion}
-use Rattle.std.proofs.lemmas.Bool.{cases_eq, eq-eqb, eqb-true, false≢true, ne_eqb}
+use Rattle.std.proofs.lemmas.Bool.{cases_eq, eq-eqb, false≢true, ne_eqb}
 use Rattle.std.proofs.lemmas.List.{length-set, get_or-set_same, get_or-set_other, get_or_default}
 use Rattle.std.proofs.lemmas.List.Edits.{length-insert}
 use Rattle.std.proofs.lemmas.List.Elements.{All-append, All-cons, All-drop, All-from_recursion, All-take, All-weaker}
 use Rattle.std.proofs.lemmas.List.Elements.{recursion_from_All}
 use Rattle.std.proofs.lemmas.List.Sums.{sum_by-cons, sum_by-insert, sum_by-set}
-use Rattle.otel_picture.specs.Orders.{AreInOrder, IsHead, Precedes, comes_before, is_later_root}
+use Rattle.otel_picture.specs.Orders.{AreInOrder, Precedes, comes_before}
 use Rattle.otel_picture.specs.Parents.{parent_of}
-use Rattle.otel_picture.specs.Placed.{ArePlaced, IsLastReady, IsPutIn, WaitInFront}
-use Rattle.otel_picture.specs.Rows.{IsLeft, IsTurn, StandUnder, is_ready, rows_of}
+use Rattle.otel_picture.specs.Placed.{ArePlaced, IsPutIn, WaitInFront}
+use Rattle.otel_picture.specs.Rows.{IsLeft, IsTop, StandUnder, rows_of}
 use Rattle.otel_picture.specs.declared.rows.Mark.{Mark}
 use Rattle.otel_picture.specs.declared.rows.Row.{Row}
-use Rattle.otel_picture.proofs.Ordering.{before_total, counted_at, none_above, one_here, put_in_order}
-use Rattle.otel_picture.proofs.Ordering.{roots_after, roots_before}
+use Rattle.otel_picture.proofs.Ordering.{before_total, counted_at, none_above, put_in_order}
+use Rattle.otel_picture.proofs.Ordering.{roots_after}
 use Rattle.otel_picture.proofs.Under.{insert_root, insert_under}
 
 -- how many rows a span has after a row put in
@@ -58,7 +58,7 @@ all_there parents rows at row here all =
     (All-drop (λ r. r.span < length parents) at rows all))
 
 -- a span that is left after one more has its row was left before, and is another
-left_before : (placed : List Bool) (span other : ℕ) → span < length placed → IsLeft (set placed span true) other
+pub left_before : (placed : List Bool) (span other : ℕ) → span < length placed → IsLeft (set placed span true) other
     → (other ≡ span → ⊥) × IsLeft placed other
 left_before placed span other there h = elim (cases_eq other span) [
   | inl same ↦ absurd (false≢true (sym h.left ∙ ap (λ k. get_or (set placed span true) k true) same
@@ -113,11 +113,6 @@ placed_more marks parents placed old new span before left put =
       wait = wait_more marks parents placed old put.at span put.row left.there put.shows put.waits before.wait;
     })
 
--- a span whose parent has a row is ready while it is left
-ready_under : (parents : List (Option ℕ)) (placed : List Bool) (parent other : ℕ) → IsLeft placed other
-    → parent_of parents other ≡ Some parent → get_or placed parent false ≡ true → is_ready parents placed other ≡ true
-ready_under parents placed parent other left of over = rw (left.left, of, over) refl
-
 -- a span that has a row is placed
 placed_of : (marks : List Mark) (parents : List (Option ℕ)) (placed : List Bool) (rows : List Row) (span : ℕ)
     (held : Bool) → ArePlaced marks parents placed rows → 0 < rows_of span rows → get_or placed span false ≡ held
@@ -143,7 +138,9 @@ later_siblings marks parents placed (r ∷ rows) row left deep h = (
 -- a row put in after its parent's
 pub put_after : (marks : List Mark) (parents : List (Option ℕ)) (placed : List Bool) (old new : List Row)
     (at span : ℕ) (parent : Row) → ArePlaced marks parents placed old → IsLeft placed span
-    → IsLastReady marks parents placed span → at < length old → parent ≡ get_or old at parent
+    → ((other : ℕ) → IsLeft placed other → parent_of parents other ≡ parent_of parents span
+    → comes_before marks span other ≡ false)
+    → at < length old → parent ≡ get_or old at parent
     → parent_of parents span ≡ Some (get_or old at parent).span
     → new ≡ insert old (at + 1) (record { span = span; level = parent.level + 1 })
     → IsPutIn marks parents placed old new span
@@ -179,75 +176,28 @@ put_after marks parents placed old new at span parent before left last there rea
           (recursion_from_All (Waits marks parents placed) old before.wait)))))
           before.in_order);
       waits = λ deep other also ne same. before_total marks span other (λ e. ne (sym e))
-          (last other also.there (ready_under parents placed parent.span other also (same ∙ of) over));
+          (last other also same);
     }
 
-both_true : (a b : Bool) → a && b ≡ true → b ≡ true
-both_true true b h = h
-both_true false b h = absurd (false≢true h)
-
--- a row without its parent's is a root's
-root_of : (marks : List Mark) (parents : List (Option ℕ)) (placed : List Bool) (rows : List Row) (span : ℕ)
-    (parent : Option ℕ) → ArePlaced marks parents placed rows → parent_of parents span ≡ parent
-    → ((parent : ℕ) → parent_of parents span ≡ Some parent → rows_of parent rows ≡ 0)
-    → IsTurn marks parents placed span → (parent_of parents span ≡ None) ⊎ IsHead marks parents span
-root_of marks parents placed rows span None before e none turn = inl e
-root_of marks parents placed rows span (Some parent) before e none (inr head) = inr head
-root_of marks parents placed rows span (Some parent) before e none (inl ready) =
-    let over : get_or placed parent false ≡ true = both_true _ _ (rw e at ready) in
-    let one : rows_of parent rows ≡ 1 = before.once parent ∙ ap (λ (b : Bool). if b then 1 else 0) over in
-    absurd (omega (arith, one, none parent e))
-
--- the span of no row
-none_shown : (span : ℕ) (rows : List Row) → rows_of span rows ≡ 0 → AllByRecursion (λ r. span ≡ r.span → ⊥) rows
-none_shown span [] h = tt
-none_shown span (r ∷ rows) h =
-    let sum = sum_by-cons (λ (x : Row). if x.span == span then 1 else 0) r rows in (
-      λ e. absurd (omega (arith, h, one_here span r rows (sym e))),
-      none_shown span rows (omega (arith, h, sum)),
-    )
-
-both_of : (P Q : Row → Type 0) (rows : List Row) → AllByRecursion P rows → AllByRecursion Q rows
-    → AllByRecursion (λ r. P r × Q r) rows
-both_of P Q [] h k = tt
-both_of P Q (r ∷ rows) h k = ((h.0, k.0), both_of P Q rows h.1 k.1)
-
-two_true : (a b : Bool) → a && b ≡ true → (a ≡ true) × (b ≡ true)
-two_true true b h = (refl, h)
-two_true false b h = absurd (false≢true h)
-
-pub put_root : (marks : List Mark) (parents : List (Option ℕ)) (placed : List Bool) (old new : List Row)
-    (at span : ℕ) → ArePlaced marks parents placed old → IsLeft placed span → at ≤ length old
-    → ((parent : ℕ) → parent_of parents span ≡ Some parent → rows_of parent old ≡ 0)
-    → IsTurn marks parents placed span
-    → All (λ row. is_later_root marks span row ≡ false) (take at old)
-    → ((row : Row) → at < length old → is_later_root marks span (get_or old at row) ≡ true)
-    → new ≡ insert old at (record { span = span; level = 0 }) → IsPutIn marks parents placed old new span
-put_root marks parents placed old new at span before left within none turn earlier later is =
+-- a row put in in front of roots that come later
+pub put_front : (marks : List Mark) (parents : List (Option ℕ)) (placed : List Bool) (old : List Row) (span : ℕ)
+    → ArePlaced marks parents placed old → IsLeft placed span → IsTop marks parents span
+    → ((row : Row) → 0 < length old → ((get_or old 0 row).level ≡ 0)
+    × (comes_before marks span (get_or old 0 row).span ≡ true))
+    → IsPutIn marks parents placed old (record { span = span; level = 0 } ∷ old) span
+put_front marks parents placed old span before left top first =
     let row : Row = record { span = span; level = 0 } in
-    let missing : rows_of span old ≡ 0 = before.once span
-    ∙ ap (λ (b : Bool). if b then 1 else 0) (get_or_default placed span false true left.there ∙ left.left) in
-    let first : at < length old → ((get_or old at row).level ≡ 0)
-    × (comes_before marks span (get_or old at row).span ≡ true) =
-    λ l. let two = two_true _ _ (later row l) in (eqb-true _ _ two.0, two.1) in
     record {
       row = row;
-      at = at;
-      within = within;
-      is = is;
+      at = 0;
+      within = omega arith;
+      is = refl;
       shows = refl;
       shallow = omega arith;
-      under = rw is (insert_root marks parents [] old at row
-          (record { level = refl; top = root_of marks parents placed old span _ before refl none turn })
-          (λ l. (first l).0) before.under);
-      in_order = rw is (put_in_order marks parents old at row
-          (roots_before marks parents (take at old) row refl
-          (both_of (λ r. span ≡ r.span → ⊥) (λ r. is_later_root marks span r ≡ false) (take at old)
-          (recursion_from_All (λ r. span ≡ r.span → ⊥) (take at old)
-          (All-take (λ r. span ≡ r.span → ⊥) at old
-          (All-from_recursion (λ r. span ≡ r.span → ⊥) old (none_shown span old missing))))
-          (recursion_from_All (λ r. is_later_root marks span r ≡ false) (take at old) earlier)))
-          (roots_after marks parents old at row refl first before.in_order) before.in_order);
+      under = insert_root marks parents [] old 0 row (record { level = refl; top = top }) (λ l. (first row l).0)
+          before.under;
+      in_order = put_in_order marks parents old 0 row tt
+          (roots_after marks parents old 0 row refl (first row) before.in_order) before.in_order;
       waits = λ deep. absurd (omega (arith, deep));
     }
 
@@ -264,7 +214,7 @@ all_counted (true ∷ placed) h =
 all_counted (false ∷ placed) h = absurd (h 0 (record { there = omega arith; left = refl }))
 
 -- and each has one
-not_left : (placed : List Bool) (span : ℕ) (held : Bool) → span < length placed → (IsLeft placed span → ⊥)
+pub not_left : (placed : List Bool) (span : ℕ) (held : Bool) → span < length placed → (IsLeft placed span → ⊥)
     → get_or placed span true ≡ held → get_or placed span false ≡ true
 not_left placed span true there h e = get_or_default placed span false true there ∙ e
 not_left placed span false there h e = absurd (h (record { there = there; left = e }))

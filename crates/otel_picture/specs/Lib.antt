@@ -18,3 +18,5 @@ pub mod SvgParts
 pub mod SvgTexts
 pub mod Texts
 pub mod Traces
+pub mod Turns
+pub mod Walks

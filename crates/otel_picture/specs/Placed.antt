@@ -4,14 +4,9 @@ use Rattle.std.specs.Prelude.{if◌then◌else◌, length}
 use Rattle.otel_picture.specs.Families.{parents_in}
 use Rattle.otel_picture.specs.Orders.{AreInOrder, comes_before}
 use Rattle.otel_picture.specs.Parents.{parent_of}
-use Rattle.otel_picture.specs.Rows.{IsLeft, StandUnder, is_ready, rows_of}
+use Rattle.otel_picture.specs.Rows.{IsLeft, StandUnder, rows_of}
 use Rattle.otel_picture.specs.declared.rows.Mark.{Mark}
 use Rattle.otel_picture.specs.declared.rows.Row.{Row}
-
--- no span that is ready comes after this one
-abbrev pub IsLastReady : List Mark → List (Option ℕ) → List Bool → ℕ → Type 0
-IsLastReady marks parents placed span = (other : ℕ) → other < length placed
-    → is_ready parents placed other ≡ true → comes_before marks span other ≡ false
 
 -- the spans that have no row yet come before their siblings that have one under their parent
 abbrev pub WaitInFront : List Mark → List (Option ℕ) → List Bool → List Row → Type 0

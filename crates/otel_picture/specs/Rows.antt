@@ -1,15 +1,19 @@
 -- The rows of a trace's picture: which span stands where, and how far under its ancestors.
 use Rattle.std.specs.Prelude.{◌≡◌, ◌<◌, ℕ, suc, Bool, true, false, Option, Some, None, List, [], ◌∷◌}
-use Rattle.std.specs.Prelude.{◌&&◌, ◌==◌, ◌⊎◌, get_or, length, not, count_by, if◌then◌else◌, nat_lt}
+use Rattle.std.specs.Prelude.{◌==◌, ◌⊎◌, get_or, length, count_by, if◌then◌else◌, nat_lt}
 use Rattle.otel_picture.specs.Orders.{IsHead}
 use Rattle.otel_picture.specs.Parents.{parent_of}
 use Rattle.otel_picture.specs.declared.rows.Mark.{Mark}
 use Rattle.otel_picture.specs.declared.rows.Row.{Row}
 
--- a row at the left: of a span without a parent, or of the first span of a circle
+-- a span's row stands at the left: it has no parent in the picture, or is the first of a circle
+abbrev pub IsTop : List Mark → List (Option ℕ) → ℕ → Type 0
+IsTop marks parents span = (parent_of parents span ≡ None) ⊎ IsHead marks parents span
+
+-- a row at the left
 pub record IsRoot (marks : List Mark) (parents : List (Option ℕ)) (row : Row) : Type 0 where
   pub level : row.level ≡ 0
-  pub top : (parent_of parents row.span ≡ None) ⊎ IsHead marks parents row.span
+  pub top : IsTop marks parents row.span
 
 -- the last one of rows, which come last first, that stands less than so many levels under a root
 abbrev pub nearest_above : ℕ → List Row → Option Row
@@ -33,24 +37,7 @@ StandUnder marks parents before (row ∷ rows) =
 abbrev pub rows_of : ℕ → List Row → ℕ
 rows_of span rows = count_by (λ row. row.span == span) rows
 
--- whether a parent has a row, if there is one
-abbrev pub is_over : List Bool → Option ℕ → Bool
-is_over placed None = true
-is_over placed (Some parent) = get_or placed parent false
-
--- whether a span's row can be put in: it has none, and its parent has, if it is in the picture
-abbrev pub is_ready : List (Option ℕ) → List Bool → ℕ → Bool
-is_ready parents placed span = not (get_or placed span true) && is_over placed (parent_of parents span)
-
 -- a span of the picture that has no row yet
 pub record IsLeft (placed : List Bool) (span : ℕ) : Type 0 where
   pub there : span < length placed
   pub left : get_or placed span true ≡ false
-
--- no span is ready
-abbrev pub IsStuck : List (Option ℕ) → List Bool → Type 0
-IsStuck parents placed = (span : ℕ) → span < length placed → is_ready parents placed span ≡ false
-
--- a span's row may be put in: it is ready, or the first of a circle
-abbrev pub IsTurn : List Mark → List (Option ℕ) → List Bool → ℕ → Type 0
-IsTurn marks parents placed span = (is_ready parents placed span ≡ true) ⊎ IsHead marks parents span

@@ -47,7 +47,7 @@ impl<'a> Traces<'a> {
     ghost use Rattle.otel_picture.specs.Drawn.{AreTracesOf, plain_traces};
 
     /// The traces of spans, which stand in order of export. They come in the order in which each first comes. Memory is
-    /// taken for some 100 bytes a span.
+    /// taken for some 100 bytes a span, and for as much again while the rows of a trace are put in.
     pub fn of(alloc: Global, spans: &'a [ShownSpan]) -> Result<Traces<'a>, AllocError>
         ensures { IfOk result (λ traces. AreTracesOf spans.now (plain_traces traces)) }
     {

@@ -1,10 +1,11 @@
--- The rows so far are those of the spans that have one.
-use Rattle.std.proofs.Common.{◌-◌, vec_len, count_by}
-use Rattle.otel_picture.specs.Placed.{ArePlaced}
+-- The rows that are done and those that wait.
+use Rattle.std.proofs.Common.{◌-◌, vec_len}
+use Rattle.otel_picture.specs.Turns.{plain_waiting}
+use Rattle.otel_picture.proofs.Turning.{IsUnderWay}
 use Rattle.otel_picture.proofs.rows.rows.Given as goal
 
-abbrev pub invariant-loop-span : goal.invariant-loop-span
-invariant-loop-span l = ArePlaced l.family.marks.items l.family.parents.items l.placed.items l.rows.items
+abbrev pub invariant-loop-row : goal.invariant-loop-row
+invariant-loop-row l = IsUnderWay l.family.marks.items l.family.parents.items l.rows.items (plain_waiting l.waiting)
 
-abbrev pub decreases-loop-span : goal.decreases-loop-span
-decreases-loop-span l = vec_len l.placed - count_by (λ has_row. has_row) l.placed.items
+abbrev pub decreases-loop-row : goal.decreases-loop-row
+decreases-loop-row l = l.count - vec_len l.rows
