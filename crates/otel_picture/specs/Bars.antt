@@ -1,5 +1,6 @@
 -- Where moments stand in a picture, and how long a span was by itself.
-use Rattle.std.specs.Prelude.{ℕ, suc, ◌-◌, ◌+◌, ◌*◌, ◌/◌, ◌==◌, List, [], ◌∷◌, min, max, nat_le, if◌then◌else◌}
+use Rattle.std.specs.Prelude.{◌≡◌, ◌<◌, ◌≤◌, ◌-◌, ◌+◌, ◌*◌, ◌/◌, ◌==◌, ℕ, suc, List, [], ◌∷◌, drop, get_or, length}
+use Rattle.std.specs.Prelude.{max, min, nat_le, if◌then◌else◌}
 use Rattle.otel_picture.specs.Orders.{mark_at, start_at}
 use Rattle.otel_picture.specs.declared.bar.Sweep.{Sweep}
 use Rattle.otel_picture.specs.declared.rows.Mark.{Mark}
@@ -53,3 +54,20 @@ self_time marks row rest =
     let end : ℕ = max mark.start mark.end in
     let swept : Sweep = sweep_rows marks row.level end (record { until = mark.start; free = 0 }) rest in
     swept.free + (end - swept.until)
+
+-- the rows under a row end: those before the end are of a greater level, and that at the end is not
+pub record EndsAt (rows : List Row) (at end : ℕ) : Type 0 where
+  pub after : at < end
+  pub within : end ≤ length rows
+  pub under : (row : ℕ) (d e : Row) → at < row → row < end → (get_or rows at d).level < (get_or rows row e).level
+  pub stops : (d e : Row) → end < length rows → (get_or rows end e).level ≤ (get_or rows at d).level
+
+pub record AreEnds (rows : List Row) (ends : List ℕ) : Type 0 where
+  pub alike : length ends ≡ length rows
+  pub each : (at : ℕ) → at < length rows → EndsAt rows at (get_or ends at 0)
+
+-- how long none of the children ran, of each row
+pub record AreSelfTimes (marks : List Mark) (rows : List Row) (times : List ℕ) : Type 0 where
+  pub alike : length times ≡ length rows
+  pub each : (at : ℕ) (row : Row) → at < length rows
+      → get_or times at 0 ≡ self_time marks (get_or rows at row) (drop (at + 1) rows)

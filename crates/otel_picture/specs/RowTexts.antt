@@ -79,9 +79,9 @@ module _ (sheet : PlainSheet) where
       ++ number_text [] (length_of (row_mark sheet row))
       else []
 
-  abbrev pub self_text : Row → List Row → List ℕ
-  self_text row rest =
-      if sheet.layout.has_self_time then number_text [] (self_time sheet.trace.marks row rest) else []
+  -- how long none of its children ran
+  abbrev pub self_text : ℕ → List ℕ
+  self_text own = if sheet.layout.has_self_time then number_text [] own else []
 
   -- the end of a row, and a line of its own for what went wrong
   abbrev pub note_text : (indent : ℕ) → PlainStatus → List ℕ
@@ -91,15 +91,15 @@ module _ (sheet : PlainSheet) where
       codes "\n" ++ (times indent 32 ++ (codes "! "
       ++ (cut_text (sheet.layout.columns - indent - 2) (shown_text description) ++ codes "\n")))
 
-  -- the row of a span, by the rows after it
-  abbrev pub row_text : Row → List Row → List ℕ
-  row_text row rest =
+  -- the row of a span, by how long none of its children ran
+  abbrev pub row_text : Row → ℕ → List ℕ
+  row_text row own =
       name_text row ++ (bar_text row ++ (numbers_text row
-      ++ (self_text row rest ++ note_text (indent_of row) (row_span sheet row).status)))
+      ++ (self_text own ++ note_text (indent_of row) (row_span sheet row).status)))
 
   abbrev pub rows_text : List Row → List ℕ
   rows_text [] = []
-  rows_text (row ∷ rest) = row_text row rest ++ rows_text rest
+  rows_text (row ∷ rest) = row_text row (self_time sheet.trace.marks row rest) ++ rows_text rest
 
   -- a trace, and how many spans it has
   abbrev pub title_text : List ℕ

@@ -1,10 +1,22 @@
 //! Bars: which columns of a room a span covers on its trace's scale, and how long it was by itself.
 
-ghost use Rattle.std.specs.Prelude.{◌≡◌, ◌<◌, ◌≤◌, All, length, max};
-ghost use Rattle.otel_picture.specs.Bars.{column, first_of, last_of, self_time, sweep_over, sweep_rows};
+ghost use Rattle.std.specs.Prelude.{◌≡◌, ◌<◌, ◌≤◌, ◌+◌, ℕ, All, IfOk, drop, get_or, length, max};
+ghost use Rattle.otel_picture.specs.Bars.{
+  AreEnds,
+  AreSelfTimes,
+  EndsAt,
+  column,
+  first_of,
+  last_of,
+  self_time,
+  sweep_over,
+  sweep_rows,
+};
+ghost use Rattle.otel_picture.specs.declared.rows.Row.{Row};
 ghost use Rattle.otel_picture.specs.Orders.{start_at};
 
 use crate::rows::{Mark, Row};
+use std::alloc::{AllocError, Global};
 
 /// A trace's scale: its first moment and its last, and the room that its bars have.
 #[derive(Clone, Copy, Debug, PartialEq, Eq)]
@@ -96,39 +108,96 @@ fn sweep_over(end: u64, sweep: Sweep, child: Mark) -> Sweep
     }
 }
 
-/// Goes on over the children of a row of a level, which are among the rows after it.
-fn sweep_rows(marks: &[Mark], level: usize, end: u64, begun: Sweep, rest: &[Row]) -> Sweep
-    requires there { All (λ row. row.span < length marks.now) rest.now }
+/// Where the rows under a row end: at the first row after it that is not of a greater level. Those under the rows after
+/// it are known.
+fn end_of(rows: &[Row], ends: &[usize], at: usize) -> usize
+    requires here { at < length rows.now }
+    requires alike { length ends.now ≡ length rows.now }
+    requires known { (row : ℕ) → at < row → row < length rows.now → EndsAt rows.now row (get_or ends.now row 0) }
+    ensures { EndsAt rows.now at result }
+{
+    let level = rows[at].level;
+    let mut end = at + 1;
+    while end < rows.len() && rows[end].level > level {
+        end = ends[end];
+    }
+    end
+}
+
+/// Where the rows under each row end.
+fn ends_of(alloc: Global, rows: &[Row]) -> Result<Vec<usize>, AllocError>
+    ensures { IfOk result (λ ends. AreEnds rows.now ends.items) }
+{
+    let mut ends = vec![in alloc; 0; rows.len()]?;
+    let mut at = rows.len();
+    while at > 0 {
+        at -= 1;
+        ends[at] = end_of(rows, &ends, at);
+    }
+    Ok(ends)
+}
+
+/// Goes on over the children of a row of a level, which are among the rows from one on. The rows under a child are
+/// passed over.
+fn sweep_rows(
+    marks: &[Mark],
+    rows: &[Row],
+    ends: &[usize],
+    from: usize,
+    level: usize,
+    end: u64,
+    begun: Sweep,
+) -> Sweep
+    requires there { All (λ row. row.span < length marks.now) rows.now }
+    requires ends { AreEnds rows.now ends.now }
     requires within { begun.until ≤ end }
     requires fits { begun.free ≤ begun.until }
-    ensures is { result ≡ sweep_rows marks.now level end begun rest.now }
+    ensures is { result ≡ sweep_rows marks.now level end begun (drop from rows.now) }
     ensures within { result.until ≤ end }
     ensures fits { result.free ≤ result.until }
 {
     let mut sweep = begun;
-    for row in rest {
-        if row.level <= level {
-            break;
+    let mut at = from;
+    while at < rows.len() && rows[at].level > level {
+        if rows[at].level == level + 1 {
+            sweep = sweep_over(end, sweep, marks[rows[at].span]);
         }
-        if row.level == level + 1 {
-            sweep = sweep_over(end, sweep, marks[row.span]);
-        }
+        at = ends[at];
     }
     sweep
 }
 
-/// How many nanoseconds none of its children ran while a span did, by the rows after its own.
-pub(crate) fn self_time(marks: &[Mark], row: Row, rest: &[Row]) -> u64
-    requires here { row.span < length marks.now }
-    requires there { All (λ row. row.span < length marks.now) rest.now }
-    ensures { result ≡ self_time marks.now row rest.now }
+/// How many nanoseconds none of its children ran while the span of a row did.
+fn self_time(marks: &[Mark], rows: &[Row], ends: &[usize], at: usize) -> u64
+    requires here { at < length rows.now }
+    requires there { All (λ row. row.span < length marks.now) rows.now }
+    requires ends { AreEnds rows.now ends.now }
+    ensures { (row : Row) → result ≡ self_time marks.now (get_or rows.now at row) (drop (at + 1) rows.now) }
 {
+    let row = rows[at];
     let mark = marks[row.span];
     let end = mark.start.max(mark.end);
     let begun = Sweep {
         until: mark.start,
         free: 0,
     };
-    let swept = sweep_rows(marks, row.level, end, begun, rest);
+    let swept = sweep_rows(marks, rows, ends, at + 1, row.level, end, begun);
     swept.free + (end - swept.until)
+}
+
+/// The same of each row. Each is passed once as the child of another.
+pub(crate) fn self_times(
+    alloc: Global,
+    marks: &[Mark],
+    rows: &[Row],
+) -> Result<Vec<u64>, AllocError>
+    requires { All (λ row. row.span < length marks.now) rows.now }
+    ensures { IfOk result (λ times. AreSelfTimes marks.now rows.now times.items) }
+{
+    let ends = ends_of(alloc, rows)?;
+    let mut times = Vec::with_capacity(alloc, rows.len())?;
+    for at in 0..rows.len() {
+        times.push(self_time(marks, rows, &ends, at))?;
+    }
+    Ok(times)
 }

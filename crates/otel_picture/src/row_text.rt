@@ -1,6 +1,6 @@
 //! The rows of the text form, a span each: name, bar, numbers, and what went wrong on a line of its own.
 
-ghost use Rattle.std.specs.Prelude.{◌≡◌, ◌<◌, ◌==◌, All, IfOk, OnOk, encode_utf8, length, max, string_bytes};
+ghost use Rattle.std.specs.Prelude.{◌≡◌, ◌<◌, ◌==◌, IfOk, OnOk, encode_utf8, length, max, string_bytes};
 ghost use Rattle.std.specs.List.{list_any};
 ghost use Rattle.opentelemetry.specs.PlainValues.{plain_status};
 ghost use Rattle.opentelemetry.specs.Text.{TextGrows};
@@ -23,7 +23,7 @@ ghost use Rattle.otel_picture.specs.RowTexts.{
 ghost use Rattle.otel_picture.specs.PlainSheets.{row_span, sheet_column};
 ghost use Rattle.otel_picture.specs.Sheets.{plain_sheet};
 
-use crate::bar::{Bar, self_time};
+use crate::bar::{Bar, self_times};
 use crate::durations::push_duration;
 use crate::rows::Row;
 use crate::sheet::{Sheet, is_error};
@@ -191,21 +191,12 @@ impl Sheet<'_> {
     }
 
     /// The time without the children, where there is room.
-    fn push_self_time(
-        &self,
-        alloc: Global,
-        text: &mut String,
-        row: Row,
-        rest: &[Row],
-    ) -> Result<(), AllocError>
-        requires here { row.span < length self.now.trace.now.family.marks.items }
-        requires there { All (λ row. row.span < length self.now.trace.now.family.marks.items) rest.now }
-        ensures { OnOk result (TextGrows text.old (self_text (plain_sheet self.now) row rest.now) text.new) }
+    fn push_self_time(&self, alloc: Global, text: &mut String, own: u64) -> Result<(), AllocError>
+        ensures { OnOk result (TextGrows text.old (self_text (plain_sheet self.now) own) text.new) }
     {
         if !self.layout.has_self_time {
             return Ok(());
         }
-        let own = self_time(&self.trace.family.marks, row, rest);
         push_number(alloc, text, "", own)
     }
 
@@ -233,22 +224,21 @@ impl Sheet<'_> {
         text.push('\n')
     }
 
-    /// The row of a span, by the rows after it.
+    /// The row of a span, by the time without the children.
     fn push_row(
         &self,
         alloc: Global,
         text: &mut String,
         row: Row,
-        rest: &[Row],
+        own: u64,
     ) -> Result<(), AllocError>
-        requires here { row.span < length self.now.trace.now.family.marks.items }
-        requires there { All (λ row. row.span < length self.now.trace.now.family.marks.items) rest.now }
-        ensures { OnOk result (TextGrows text.old (row_text (plain_sheet self.now) row rest.now) text.new) }
+        requires { row.span < length self.now.trace.now.family.marks.items }
+        ensures { OnOk result (TextGrows text.old (row_text (plain_sheet self.now) row own) text.new) }
     {
         self.push_name(alloc, text, row)?;
         self.push_bar(text, row)?;
         self.push_numbers(alloc, text, row)?;
-        self.push_self_time(alloc, text, row, rest)?;
+        self.push_self_time(alloc, text, own)?;
         let span = self.span_of(row);
         self.push_note(alloc, text, self.indent_of(row), &span.status)?;
         Ok(())
@@ -259,10 +249,10 @@ impl Sheet<'_> {
         ensures { OnOk result (TextGrows text.old
             (rows_text (plain_sheet self.now) self.now.trace.now.rows.items) text.new) }
     {
-        let mut left = self.trace.rows.as_slice();
-        while let Some((row, rest)) = left.split_first() {
-            self.push_row(alloc, text, *row, rest)?;
-            left = rest;
+        let rows = self.trace.rows.as_slice();
+        let own = self_times(alloc, &self.trace.family.marks, rows)?;
+        for at in 0..rows.len() {
+            self.push_row(alloc, text, rows[at], own[at])?;
         }
         Ok(())
     }

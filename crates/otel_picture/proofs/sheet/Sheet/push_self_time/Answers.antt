@@ -6,4 +6,4 @@ pub returns-then-not-self : goal.returns-then-not-self
 returns-then-not-self c = rw c.if-not-self.true (sym (append-nil (string_bytes c.args.text.now)))
 
 pub returns : goal.returns
-returns c = rw c.if-not-self.false (rw (← c.deref.ensures.value) (rw (← c.self_time-own.ensures) c.push_number.ensures))
+returns c = rw c.if-not-self.false c.push_number.ensures
