@@ -52,7 +52,7 @@ first_by p key keys false e rest = record {
     before zero l = e
     before (suc k) l = rest.others k (omega (arith, l))
 
-first_place : (p : ℕ → Bool) (keys : List ℕ) → FirstPlace p keys
+pub first_place : (p : ℕ → Bool) (keys : List ℕ) → FirstPlace p keys
 first_place p [] =
     record { at = 0; within = omega arith; others = λ k l. absurd (omega (arith, l)); passes = λ l. absurd (omega (arith, l)) }
 first_place p (key ∷ keys) = first_by p key keys (p key) refl (first_place p keys)

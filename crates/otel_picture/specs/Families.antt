@@ -1,6 +1,6 @@
 -- Spans by trace, and within a trace who is whose parent.
-use Rattle.std.specs.Prelude.{ℕ, zero, suc, Bool, false, List, [], ◌∷◌, ◌++◌, ◌==◌, ◌<◌, Option, None, get_or, length, map}
-use Rattle.std.specs.Prelude.{All, nat_eq, if◌then◌else◌, position}
+use Rattle.std.specs.Prelude.{ℕ, zero, suc, Bool, false, List, [], ◌∷◌, ◌++◌, ◌==◌, ◌<◌, Option, None, get_or, length}
+use Rattle.std.specs.Prelude.{All, map, nat_eq, if◌then◌else◌, position}
 use Rattle.std.specs.List.{fold}
 use Rattle.opentelemetry.specs.Plain.{unset}
 use Rattle.opentelemetry.specs.declared.trace.span_kind.SpanKind.TheVariants as kinds

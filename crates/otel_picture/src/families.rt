@@ -1,15 +1,19 @@
 //! Spans by trace: which traces there are, in the order in which each first comes, which spans each has, and who is
 //! whose parent.
+//!
+//! Ids are looked up in maps in order: those of hashes could be slowed down by ids that somebody chose for it.
 
-ghost use Rattle.std.specs.Prelude.{◌≡◌, ◌<◌, All, IfOk, OnOk, length};
-ghost use Rattle.otel_picture.specs.Families.{mark_of, marks_at, parent_in, parents_in, trace_ids};
+ghost use Rattle.std.specs.Prelude.{◌≡◌, ◌<◌, ◌==◌, ℕ, None, Some, All, IfOk, OnOk, if◌then◌else◌, length, position, unwrap_or};
+ghost use Rattle.std.specs.BTreeMap.{get};
+ghost use Rattle.std.specs.Ordering.{nat_cmp};
+ghost use Rattle.otel_picture.specs.Families.{mark_of, marks_at, parents_in, trace_ids};
 ghost use Rattle.otel_picture.specs.Groups.{AreGroups, IsAdded};
 
 use crate::rows::{Family, Mark};
-use indexmap::IndexSet;
 use opentelemetry::{SpanId, TraceId};
 use otel_shown::ShownSpan;
 use std::alloc::{AllocError, Global};
+use std::collections::BTreeMap;
 
 /// Where the spans of a trace stand.
 #[derive(Drop)]
@@ -37,16 +41,35 @@ fn add_place(
     Ok(())
 }
 
+/// The number of the group of a trace: a new one, after so many, where it has none.
+fn number_of(
+    numbers: &mut BTreeMap<TraceId, usize>,
+    trace_id: TraceId,
+    count: usize,
+) -> Result<usize, AllocError>
+    ensures is { IfOk result (λ number. number ≡ unwrap_or (get nat_cmp numbers.old trace_id) count) }
+    ensures noted { IfOk result (λ number. (id : ℕ) → get nat_cmp numbers.new id
+        ≡ (if id == trace_id then Some number else get nat_cmp numbers.old id)) }
+{
+    match numbers.get(&trace_id).copied() {
+        Some(number) => Ok(number),
+        None => {
+            numbers.insert(trace_id, count)?;
+            Ok(count)
+        }
+    }
+}
+
 /// The places of spans, by trace.
 pub(crate) fn groups_of(alloc: Global, spans: &[ShownSpan]) -> Result<Vec<Group>, AllocError>
     ensures { IfOk result (λ groups. AreGroups spans.now (length spans.now) (trace_ids spans.now) groups.items) }
 {
     let mut groups = Vec::new(alloc);
-    let mut traces = IndexSet::new(alloc);
+    let mut numbers = BTreeMap::new(alloc);
     for place in 0..spans.len() {
         let span = &spans[place];
         let trace_id = span.trace_id;
-        let (number, _) = traces.insert_full(trace_id)?;
+        let number = number_of(&mut numbers, trace_id, groups.len())?;
         add_place(alloc, &mut groups, number, trace_id, place)?;
     }
     Ok(groups)
@@ -75,23 +98,38 @@ fn marks_of(alloc: Global, spans: &[ShownSpan], places: &[usize]) -> Result<Vec<
     Ok(marks)
 }
 
+/// The first span of each id.
+fn first_of_ids(alloc: Global, marks: &[Mark]) -> Result<BTreeMap<SpanId, usize>, AllocError>
+    ensures { IfOk result (λ spans. (id : ℕ) → get nat_cmp spans id ≡ position (λ mark. mark.id == id) marks.now) }
+{
+    let mut spans = BTreeMap::new(alloc);
+    for span in 0..marks.len() {
+        let id = marks[span].id;
+        if !spans.contains_key(&id) {
+            spans.insert(id, span)?;
+        }
+    }
+    Ok(spans)
+}
+
 /// The parent of a span: the first one of the id, if there is one.
-fn parent_of(marks: &[Mark], mark: Mark) -> Option<usize>
-    ensures { result ≡ parent_in marks.now mark }
+fn parent_of(spans: &BTreeMap<SpanId, usize>, mark: Mark) -> Option<usize>
+    ensures { result ≡ (if mark.parent == 0 then None else get nat_cmp spans.now mark.parent) }
 {
     if mark.parent == SpanId::INVALID {
         None
     } else {
-        marks.iter().position(|other| other.id == mark.parent)
+        spans.get(&mark.parent).copied()
     }
 }
 
 fn parents_of(alloc: Global, marks: &[Mark]) -> Result<Vec<Option<usize>>, AllocError>
     ensures { IfOk result (λ parents. parents.items ≡ parents_in marks.now) }
 {
+    let spans = first_of_ids(alloc, marks)?;
     let mut parents = Vec::with_capacity(alloc, marks.len())?;
     for mark in marks {
-        parents.push(parent_of(marks, *mark))?;
+        parents.push(parent_of(&spans, *mark))?;
     }
     Ok(parents)
 }
