@@ -3,7 +3,8 @@
 //!
 //! Ids are looked up in maps in order: those of hashes could be slowed down by ids that somebody chose for it.
 
-ghost use Rattle.std.specs.Prelude.{◌≡◌, ◌<◌, ◌==◌, ℕ, None, Some, All, IfOk, OnOk, if◌then◌else◌, length, position, unwrap_or};
+ghost use Rattle.std.specs.Prelude.{◌≡◌, ◌<◌, ◌==◌, ℕ, None, Some, All, IfOk, OnOk, if◌then◌else◌, length, position};
+ghost use Rattle.std.specs.Prelude.{unwrap_or};
 ghost use Rattle.std.specs.BTreeMap.{get};
 ghost use Rattle.std.specs.Ordering.{nat_cmp};
 ghost use Rattle.otel_picture.specs.Families.{mark_of, marks_at, parents_in, trace_ids};
