@@ -13,7 +13,7 @@ use Rattle.otel_picture.specs.PlainSheets.{PlainSheet, errors_in, is_error, is_o
 use Rattle.otel_picture.specs.PlainSheets.{sheet_of}
 use Rattle.otel_picture.specs.SvgParts.{down, when_text, label_svg, line_after, line_svg, mark_svg, page_svg, place_svg}
 use Rattle.otel_picture.specs.SvgParts.{root_svg, style_text, title_svg}
-use Rattle.otel_picture.specs.Texts.{cut_text}
+use Rattle.otel_picture.specs.Texts.{cut_text, shown_text}
 use Rattle.otel_picture.specs.Traces.{PlainTrace}
 use Rattle.otel_picture.specs.declared.rows.Row.{Row}
 
@@ -53,7 +53,7 @@ event_svg sheet line event =
 abbrev pub note_of : PlainStatus → List ℕ
 note_of unset = []
 note_of ok = []
-note_of (error description) = codes " ! " ++ description
+note_of (error description) = codes " ! " ++ shown_text description
 
 module _ (sheet : PlainSheet) where
   -- what the head of a trace says: how long it was, and how many spans failed

@@ -12,11 +12,22 @@ use Rattle.otel_picture.specs.declared.texts.Room.{Room}
 abbrev pub is_control : ℕ → Bool
 is_control c = nat_lt c 32 || (nat_le 127 c && nat_lt c 160)
 
+-- a character that shows nothing, or that changes where others stand: of a direction, without a width, the end of a
+-- line or of a paragraph
+abbrev pub is_hidden : ℕ → Bool
+is_hidden c =
+    (c == 1564) || (c == 6158) || (nat_le 8203 c && nat_le c 8207) || (nat_le 8232 c && nat_le c 8238)
+    || (nat_le 8288 c && nat_le c 8303) || (c == 65279)
+
+-- its number in base 16
+abbrev pub numbered_char : ℕ → List ℕ
+numbered_char c = codes "\\u{" ++ (radix_digits 16 false c ++ codes "}")
+
 -- a character as the text form shows it: a control character by its number in two digits of base 16
 abbrev pub shown_char : ℕ → List ℕ
 shown_char c =
-    if is_control c then codes "\\x" ++ (radix_digits 16 false (c / 16) ++ radix_digits 16 false (c % 16))
-    else encode_utf8 c
+    if is_control c then codes "\\x" ++ (radix_digits 16 false (c / 16) ++ radix_digits 16 false (c % 16)) else
+    (if is_hidden c then numbered_char c else encode_utf8 c)
 
 abbrev pub shown_text : List ℕ → List ℕ
 shown_text text = flat_map shown_char (chars text)
@@ -83,7 +94,8 @@ escaped_char c =
     (if c == 62 then codes "&gt;" else
     (if c == 38 then codes "&amp;" else
     (if c == 34 then codes "&quot;" else
-    (if is_xml_char c then encode_utf8 c else encode_utf8 65533))))
+    (if is_hidden c then numbered_char c else
+    (if is_xml_char c then encode_utf8 c else encode_utf8 65533)))))
 
 abbrev pub escaped_text : List ℕ → List ℕ
 escaped_text = flat_map escaped_char

@@ -32,7 +32,7 @@ use crate::sheet::{Sheet, is_error};
 use crate::svg_parts::{
     down, line_after, push_label, push_mark, push_place, push_title, push_when,
 };
-use crate::texts::push_cut;
+use crate::texts::{push_cut, push_shown};
 use opentelemetry::trace::Status;
 use otel_shown::{ShownEvent, ShownSpan};
 use std::alloc::{AllocError, Global};
@@ -82,7 +82,7 @@ fn push_note(out: &mut String, status: &Status) -> Result<(), AllocError>
     match status {
         Status::Error { description } => {
             out.push_str(" ! ")?;
-            out.push_str(description.as_str())
+            push_shown(out, description.as_str())
         }
         _ => Ok(()),
     }

@@ -14,7 +14,9 @@ ghost use Rattle.otel_picture.specs.Texts.{
   fitting_text,
   in_room,
   is_control,
+  is_hidden,
   is_xml_char,
+  numbered_char,
   room_after,
   room_left,
   room_of,
@@ -34,6 +36,27 @@ fn is_control(c: char) -> bool
     code < 32 || code >= 127 && code < 160
 }
 
+/// Whether a character shows nothing, or changes where others stand.
+fn is_hidden(c: char) -> bool
+    ensures { result ≡ is_hidden c }
+{
+    let code = c as u32;
+    code == 0x61c
+        || code == 0x180e
+        || code >= 0x200b && code <= 0x200f
+        || code >= 0x2028 && code <= 0x202e
+        || code >= 0x2060 && code <= 0x206f
+        || code == 0xfeff
+}
+
+/// Appends the number of a character.
+fn push_number(out: &mut String, c: char) -> Result<(), AllocError>
+    ensures { OnOk result (TextGrows out.old (numbered_char c) out.new) }
+{
+    let code = c as u32;
+    write!(out, "\\u{{{code:x}}}")
+}
+
 fn push_shown_char(out: &mut String, c: char) -> Result<(), AllocError>
     ensures { OnOk result (TextGrows out.old (shown_char c) out.new) }
 {
@@ -42,12 +65,14 @@ fn push_shown_char(out: &mut String, c: char) -> Result<(), AllocError>
         let high = code / 16;
         let low = code % 16;
         write!(out, "\\x{high:x}{low:x}")
+    } else if is_hidden(c) {
+        push_number(out, c)
     } else {
         out.push(c)
     }
 }
 
-/// Appends a text with its control characters as `\xNN`.
+/// Appends a text with its control characters as `\xNN`, and those that show nothing as `\u{202e}`.
 pub(crate) fn push_shown(out: &mut String, text: &str) -> Result<(), AllocError>
     ensures { OnOk result (TextGrows out.old (shown_text text.now) out.new) }
 {
@@ -72,6 +97,7 @@ fn push_escaped_char(out: &mut String, c: char) -> Result<(), AllocError>
         '>' => out.push_str("&gt;"),
         '&' => out.push_str("&amp;"),
         '"' => out.push_str("&quot;"),
+        _ if is_hidden(c) => push_number(out, c),
         _ if is_xml_char(c) => out.push(c),
         _ => out.push('\u{fffd}'),
     }
