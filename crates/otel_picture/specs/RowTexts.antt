@@ -1,12 +1,13 @@
 -- What the text form writes: a trace's head and axis, and a row a span.
-use Rattle.std.specs.Prelude.{ℕ, zero, suc, ◌-◌, ◌*◌, ◌/◌, ◌==◌, ◌&&◌, Bool, true, false, List, [], ◌∷◌, ◌++◌}
+use Rattle.std.specs.Prelude.{◌≡◌, ◌<◌, ℕ, zero, suc, ◌-◌, ◌*◌, ◌/◌, ◌==◌, ◌&&◌, Bool, true, false, List, [], ◌∷◌, ◌++◌}
+use Rattle.std.specs.Prelude.{get_or}
 use Rattle.std.specs.Prelude.{codes, decimal, encode_utf8, if◌then◌else◌, length, max, min, nat_le}
 use Rattle.std.specs.List.{list_any}
 use Rattle.opentelemetry.specs.Hex.{hex_text}
 use Rattle.opentelemetry.specs.Plain.{PlainStatus, unset, error, ok}
 use Rattle.opentelemetry.specs.declared.trace.span_kind.SpanKind.{SpanKind}
 use Rattle.opentelemetry.specs.declared.trace.span_kind.SpanKind.TheVariants as kinds
-use Rattle.otel_shown.specs.Shown.{PlainShownSpan}
+use Rattle.otel_shown.specs.Shown.{PlainShownEvent, PlainShownSpan}
 use Rattle.otel_picture.specs.Bars.{length_of, self_time}
 use Rattle.otel_picture.specs.Durations.{duration_text}
 use Rattle.otel_picture.specs.Drawn.{PlainTraces}
@@ -45,10 +46,19 @@ abbrev pub errors_text : ℕ → List ℕ
 errors_text errors = if errors == 0 then [] else codes "  errors: " ++ decimal errors
 
 module _ (sheet : PlainSheet) where
+  -- whether an event happened in a column
+  abbrev pub happens_in : List PlainShownEvent → ℕ → Bool
+  happens_in events place = list_any (λ event. sheet_column sheet event.timestamp == place) events
+
+  -- the columns of a bar in which events happened are marked
+  pub record AreEventColumns (events : List PlainShownEvent) (happened : List Bool) : Type 0 where
+    pub alike : length happened ≡ sheet.layout.bar
+    pub each : (place : ℕ) → place < sheet.layout.bar → get_or happened place false ≡ happens_in events place
+
   -- one column of a span's bar: a mark where an event happened, the bar, or a blank
   abbrev pub cell_text : PlainShownSpan → ℕ → List ℕ
   cell_text span place =
-      if list_any (λ event. sheet_column sheet event.timestamp == place) span.events then encode_utf8 183 else
+      if happens_in span.events place then encode_utf8 183 else
       (if nat_le (sheet_column sheet span.start_time) place
       && nat_le place (sheet_column sheet (max span.start_time span.end_time)) then codes "=" else codes " ")
 

@@ -5,9 +5,11 @@ ghost use Rattle.std.specs.List.{list_any};
 ghost use Rattle.opentelemetry.specs.PlainValues.{plain_status};
 ghost use Rattle.opentelemetry.specs.Text.{TextGrows};
 ghost use Rattle.otel_picture.specs.RowTexts.{
+  AreEventColumns,
   bar_text,
   cell_text,
   cells_text,
+  happens_in,
   indent_of,
   kind_text,
   label_text,
@@ -90,26 +92,26 @@ fn sign_of(status: &Status) -> &'static str
 }
 
 impl Sheet<'_> {
-    /// Whether an event happened in a column.
-    fn happens_in(&self, events: &[ShownEvent], column: u32) -> bool
-        ensures { result
-            ≡ list_any (λ event. sheet_column (plain_sheet self.now) event.timestamp == column) events.now }
+    /// In which columns of a bar events happened.
+    fn event_columns(&self, alloc: Global, events: &[ShownEvent]) -> Result<Vec<bool>, AllocError>
+        ensures { IfOk result (λ happened. AreEventColumns (plain_sheet self.now) events.now happened.items) }
     {
+        let mut happened = vec![in alloc; false; self.layout.bar as usize]?;
         for event in events {
-            if self.scale.column(event.timestamp.0) == column {
-                return true;
-            }
+            let column = self.scale.column(event.timestamp.0);
+            happened[column as usize] = true;
         }
-        false
+        Ok(happened)
     }
 
     /// A column of the bar of a span: a mark where an event happened.
-    fn cell_of(&self, span: &ShownSpan, bar: Bar, column: u32) -> char
+    fn cell_of(&self, span: &ShownSpan, happens: bool, bar: Bar, column: u32) -> char
+        requires happens { happens ≡ happens_in (plain_sheet self.now) span.now.events column }
         requires begin { bar.begin ≡ sheet_column (plain_sheet self.now) span.now.start_time }
         requires end { bar.end ≡ sheet_column (plain_sheet self.now) (max span.now.start_time span.now.end_time) }
         ensures { encode_utf8 result ≡ cell_text (plain_sheet self.now) span.now column }
     {
-        if self.happens_in(&span.events, column) {
+        if happens {
             '·'
         } else if bar.begin <= column && column <= bar.end {
             '='
@@ -119,13 +121,20 @@ impl Sheet<'_> {
     }
 
     /// The bar of a span, with marks where events happened.
-    fn push_cells(&self, text: &mut String, span: &ShownSpan) -> Result<(), AllocError>
+    fn push_cells(
+        &self,
+        alloc: Global,
+        text: &mut String,
+        span: &ShownSpan,
+    ) -> Result<(), AllocError>
         ensures { OnOk result (TextGrows text.old
             (cells_text (plain_sheet self.now) span.now self.now.layout.bar) text.new) }
     {
+        let happened = self.event_columns(alloc, &span.events)?;
         let bar = self.scale.bar(span.start_time.0, span.end_time.0);
         for column in 0..self.layout.bar {
-            text.push(self.cell_of(span, bar, column))?;
+            let happens = happened[column as usize];
+            text.push(self.cell_of(span, happens, bar, column))?;
         }
         Ok(())
     }
@@ -163,13 +172,13 @@ impl Sheet<'_> {
     }
 
     /// Its bar, after the sign of one that failed.
-    fn push_bar(&self, text: &mut String, row: Row) -> Result<(), AllocError>
+    fn push_bar(&self, alloc: Global, text: &mut String, row: Row) -> Result<(), AllocError>
         requires { row.span < length self.now.trace.now.family.marks.items }
         ensures { OnOk result (TextGrows text.old (bar_text (plain_sheet self.now) row) text.new) }
     {
         let span = self.span_of(row);
         text.push_str(sign_of(&span.status))?;
-        self.push_cells(text, span)
+        self.push_cells(alloc, text, span)
     }
 
     /// Offset and length, where there is room.
@@ -236,7 +245,7 @@ impl Sheet<'_> {
         ensures { OnOk result (TextGrows text.old (row_text (plain_sheet self.now) row own) text.new) }
     {
         self.push_name(alloc, text, row)?;
-        self.push_bar(text, row)?;
+        self.push_bar(alloc, text, row)?;
         self.push_numbers(alloc, text, row)?;
         self.push_self_time(alloc, text, own)?;
         let span = self.span_of(row);
