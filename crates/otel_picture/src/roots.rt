@@ -1,7 +1,7 @@
-//! Which spans of a trace are roots: those without a parent in the picture, and of each circle of parents the first one.
+//! Which spans of a trace are roots: those without a parent in the picture, and of each circle of parents the first.
 //!
-//! A walk goes up from each span in turn as far as none came before, so that all of them take as many steps as there are
-//! spans.
+//! A walk goes up from each span in turn as far as none came before, so that all of them take as many steps as there
+//! are spans.
 
 ghost use Rattle.std.specs.Prelude.{◌≡◌, ◌<◌, ℕ, suc, true, Some, None, IfNone, IfOk, IfSome, is_none, length};
 ghost use Rattle.std.specs.Prelude.{vec_len};
