@@ -1,6 +1,6 @@
 -- What the SVG form writes: a file, and of each trace a head, an axis and a line a span.
 use Rattle.std.specs.Prelude.{ℕ, ◌+◌, ◌-◌, ◌*◌, ◌/◌, ◌%◌, ◌==◌, List, [], ◌∷◌, ◌++◌}
-use Rattle.std.specs.Prelude.{codes, decimal, if◌then◌else◌, length, max, min, sum}
+use Rattle.std.specs.Prelude.{codes, decimal, if◌then◌else◌, length, max, min, nat_lt, sum}
 use Rattle.std.specs.List.{flat_map}
 use Rattle.opentelemetry.specs.Plain.{PlainStatus, unset, error, ok}
 use Rattle.otel_shown.specs.Shown.{PlainShownEvent, PlainShownSpan}
@@ -49,6 +49,10 @@ event_svg sheet line event =
     mark_svg (310 + sheet_column sheet event.timestamp) (down line 3)
     ++ (title_svg (event.name ++ when_text (codes "at") event.timestamp) ++ codes "</path>")
 
+-- the level of a row that stands deeper than its name is moved in
+abbrev pub level_text : ℕ → List ℕ
+level_text level = if nat_lt 10 level then decimal level ++ codes " " else []
+
 -- what went wrong, after the numbers
 abbrev pub note_of : PlainStatus → List ℕ
 note_of unset = []
@@ -67,7 +71,8 @@ module _ (sheet : PlainSheet) where
   abbrev pub svg_name : (line : ℕ) → Row → List ℕ
   svg_name line row =
       label_svg (10 + 14 * svg_indent row) (down line 15) (cut_text (40 - 2 * svg_indent row)
-      (label_text (is_orphan sheet.trace.marks (row_mark sheet row)) sheet.is_mixed (row_span sheet row)))
+      (level_text row.level ++ label_text (is_orphan sheet.trace.marks (row_mark sheet row)) sheet.is_mixed
+      (row_span sheet row)))
 
   -- the bar of a span, from the column of its start to that of its end
   abbrev pub svg_bar : (line : ℕ) → PlainShownSpan → List ℕ

@@ -12,6 +12,7 @@ ghost use Rattle.otel_picture.specs.SvgTexts.{
   colour_of,
   event_svg,
   fault_text,
+  level_text,
   note_of,
   svg_bar,
   svg_name,
@@ -114,6 +115,17 @@ fn title_of(alloc: Global, span: &ShownSpan) -> Result<String, AllocError>
     Ok(title)
 }
 
+/// The level of a row that stands deeper than its name is moved in.
+fn level_of(alloc: Global, level: usize) -> Result<String, AllocError>
+    ensures { IfOk result (λ text. string_bytes text ≡ level_text level) }
+{
+    let mut text = String::new(alloc);
+    if level > 10 {
+        write!(text, "{level} ")?;
+    }
+    Ok(text)
+}
+
 /// Appends where a bar is, and how wide.
 fn push_bar_place(out: &mut String, line: u64, bar: Bar) -> Result<(), AllocError>
     ensures { OnOk result (TextGrows out.old
@@ -174,7 +186,7 @@ impl Sheet<'_> {
         Ok(())
     }
 
-    /// The name of a span, moved in by its level.
+    /// The name of a span, moved in by its level, after the level where that is more than it is moved in.
     fn push_svg_name(
         &self,
         alloc: Global,
@@ -187,8 +199,10 @@ impl Sheet<'_> {
     {
         let indent = row.level.min(10);
         let label = label_of(alloc, self.span_of(row), self.is_orphan(row), self.is_mixed)?;
+        let mut named = level_of(alloc, row.level)?;
+        named.push_str(label.as_str())?;
         let mut cut = String::new(alloc);
-        push_cut(&mut cut, label.as_str(), 40 - 2 * indent)?;
+        push_cut(&mut cut, named.as_str(), 40 - 2 * indent)?;
         push_label(out, 10 + 14 * indent as u64, down(line, 15), cut.as_str())
     }
 
