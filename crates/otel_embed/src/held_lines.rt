@@ -7,7 +7,7 @@ ghost use Rattle.otel_embed.specs.Drains.{capped};
 ghost use Rattle.otel_embed.specs.HeldLines.{AreWholeLines, HandsOutIfFits, is_line_feed, no_lines};
 
 use crate::numbers::sizes_of;
-use memchr::{memchr, memrchr};
+use memchr::{memchr, memchr_iter, memrchr};
 use otel_export::trace::SpanData;
 use otel_otlp::write_requests;
 use otel_resource::resource::Resource;
@@ -131,7 +131,12 @@ impl HeldLines {
 fn line_feeds(bytes: &[u8]) -> usize
     ensures { result ≡ count_by is_line_feed bytes.now }
 {
-    bytes.iter().filter(|byte| **byte == b'\n').count()
+    let mut feeds = memchr_iter(b'\n', bytes);
+    let mut count: usize = 0;
+    while let Some(_feed) = feeds.next() {
+        count += 1;
+    }
+    count
 }
 
 /// How many bytes as many whole lines take as there is room for, or else the first.
