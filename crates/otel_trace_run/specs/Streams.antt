@@ -18,6 +18,11 @@ abbrev pub streams : Option (List ℕ) → Option (List ℕ) → Option (List �
 streams input input_after output output_after =
     record { input = input; input_after = input_after; output = output; output_after = output_after }
 
+-- the same of a reader and a writer, before and after, of which these tell the bytes
+abbrev pub streams_of : {R W : Type 0} → (R → Option (List ℕ)) → R → R → (W → Option (List ℕ)) → W → W → Streams
+streams_of remaining input input_after contents output output_after =
+    streams (remaining input) (remaining input_after) (contents output) (contents output_after)
+
 -- all bytes of an input
 abbrev pub AreAll : Option (List ℕ) → List ℕ → Type 0
 AreAll input bytes = IfSome input (λ all. bytes ≡ all)

@@ -52,7 +52,7 @@ fn viewed(form: ViewForm, words: &[String]) -> Option<View>
 
 /// The form that a word names: `svg`, `json`, or a number of columns; none where it names none.
 #[tactic(auto, unfolding(crate::specs::AskedViews::form_in))]
-fn form_of(word: &str) -> Option<ViewForm>
+pub(crate) fn form_of(word: &str) -> Option<ViewForm>
     ensures { result ≡ form_in word.now }
 {
     if word == "svg" {
@@ -87,7 +87,7 @@ fn choose(words: &[String], begun: Choice) -> Option<Choice>
 
 /// A choice with what a word and the one after it add; none where they add nothing.
 #[tactic(auto, unfolding(crate::specs::AskedViews::narrowed))]
-fn narrow(word: &str, value: &str, begun: Choice) -> Option<Choice>
+pub(crate) fn narrow(word: &str, value: &str, begun: Choice) -> Option<Choice>
     ensures { result ≡ narrowed word.now value.now begun }
 {
     if word == "--slowest" {

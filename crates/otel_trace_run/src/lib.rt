@@ -17,5 +17,6 @@ pub mod run_end;
 mod step_stream;
 mod trace_stream;
 pub mod view;
+pub mod wrong_words;
 
 pub use program::run_program;

@@ -112,7 +112,7 @@ fn picture_of(words: &[String]) -> Option<Mode<'_>>
 }
 
 /// The encoding that the first of these words names, JSON where it names none, and the words after it.
-fn encoding_of(words: &[String]) -> (Encoding, &[String])
+pub(crate) fn encoding_of(words: &[String]) -> (Encoding, &[String])
     ensures { (result.0, map string_bytes result.1.now) ≡ encoding_in (map string_bytes words.now) }
 {
     match words.split_first() {

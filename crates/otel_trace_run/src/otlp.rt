@@ -5,7 +5,7 @@ ghost use Rattle.std.specs.Prelude.{◌≡◌, ◌++◌, [], IfOk, IsOk, OnErr, 
 ghost use Rattle.otel_resource.specs.DetectedResource.{IsDetected};
 ghost use Rattle.otel_trace_run.specs.OtlpRuns.{ExportsUnder, encoded, otlp_form};
 ghost use Rattle.otel_trace_run.specs.Program.{strings_given};
-ghost use Rattle.otel_trace_run.specs.Streams.{streams};
+ghost use Rattle.otel_trace_run.specs.Streams.{streams_of};
 
 use crate::run_end::RunEnd;
 use crate::trace_stream::trace_input;
@@ -118,11 +118,9 @@ pub(crate) fn export_input<P: KeepsBatches, S: ShouldSample, G: GivesIds, R: Rea
     input: &mut R,
     output: &mut W,
 ) -> RunEnd
-    ensures { ExportsUnder
-        ⟦<ProviderOf<P, S, G> as Provides>⟧.calls
+    ensures { ExportsUnder ⟦<ProviderOf<P, S, G> as Provides>⟧.calls
         (record { encoding = encoding; resource = resource }) provider
-        (streams (R.remaining input.old) (R.remaining input.new) (W.contents output.old) (W.contents output.new))
-        result }
+        (streams_of R.remaining input.old input.new W.contents output.old output.new) result }
 {
     let mut requests = OtlpRequests {
         encoding,

@@ -157,7 +157,7 @@ pub(crate) fn version_of(words: &[String]) -> Option<Page>
 
 /// The page of a mode, by its word; none where that is another word.
 #[tactic(auto, unfolding(crate::specs::Pages::page_of_mode))]
-fn page_of_mode(word: &str) -> Option<Page>
+pub(crate) fn page_of_mode(word: &str) -> Option<Page>
     ensures { result ≡ page_of_mode word.now }
 {
     match word {

@@ -9,7 +9,7 @@ ghost use Rattle.otel_picture.specs.Drawn.{plain_traces};
 ghost use Rattle.otel_trace_run.specs.Paintings.{picture_of};
 ghost use Rattle.otel_trace_run.specs.PictureRuns.{DrawsLines, DrawsUnder};
 ghost use Rattle.otel_trace_run.specs.PictureRuns.{ReadsScript, RunsOut, RunsShutdown, says_shut};
-ghost use Rattle.otel_trace_run.specs.Streams.{WhyBad, streams};
+ghost use Rattle.otel_trace_run.specs.Streams.{WhyBad, streams_of};
 ghost use Rattle.otel_trace_session.specs.Shown.{exported_in};
 
 use crate::reason::{Reason, reason_at};
@@ -105,8 +105,8 @@ pub(crate) fn draw_input<
     input: &mut R,
     output: &mut W,
 ) -> RunEnd
-    ensures { DrawsUnder ⟦<ProviderOf<P, S, G> as Provides>⟧.calls (D.paints painter.now) provider (streams
-        (R.remaining input.old) (R.remaining input.new) (W.contents output.old) (W.contents output.new)) result }
+    ensures { DrawsUnder ⟦<ProviderOf<P, S, G> as Provides>⟧.calls (D.paints painter.now) provider
+        (streams_of R.remaining input.old input.new W.contents output.old output.new) result }
 {
     let mut session = match Session::new(alloc, provider) {
         Ok(session) => session,

@@ -7,8 +7,9 @@ ghost use Rattle.otel_trace_run.specs.Arguments.{bad_line_text, otlp, picture, p
 ghost use Rattle.otel_trace_run.specs.Pages.{ShowsText, unread_text};
 ghost use Rattle.otel_trace_run.specs.Program.{RunsTo};
 ghost use Rattle.otel_trace_run.specs.Reasons.{IsFault};
-ghost use Rattle.otel_trace_run.specs.Requests.{Does, effects, mode, request_in};
-ghost use Rattle.otel_trace_run.specs.Streams.{Reports, streams};
+ghost use Rattle.otel_trace_run.specs.Requests.{Does, effects_on, mode, request_in};
+ghost use Rattle.otel_trace_run.specs.Streams.{Reports, streams_of};
+ghost use Rattle.otel_trace_run.specs.WrongWords.{refusal_text};
 
 use crate::mode::{Asked, AskedExport, Mode};
 use crate::otlp::{export_input, resource_of};
@@ -21,6 +22,7 @@ use crate::run_end::RunEnd;
 use crate::step_stream::step_input;
 use crate::trace_stream::trace_input;
 use crate::view::view_input;
+use crate::wrong_words::{Refusal, text_of as refusal_text_of};
 use otel_export::stream::write_whole;
 use otel_pipeline::trace::Provides;
 use otel_trace_lines::ReplyLines;
@@ -50,18 +52,16 @@ pub fn run_program<R: Read, W: Write, F: Write>(
     output: &mut W,
     faults: &mut F,
 ) -> u8
-    ensures { Does
-        ⟦<TraceProvider as Provides>⟧.calls ⟦<PictureForm as SpanPainter>⟧.paints
+    ensures { Does ⟦<TraceProvider as Provides>⟧.calls ⟦<PictureForm as SpanPainter>⟧.paints
         (request_in (map string_bytes words.now))
-        (streams (R.remaining input.old) (R.remaining input.new) (W.contents output.old) (W.contents output.new))
-        (effects (input.new ≡ input.old) (output.new ≡ output.old) (faults.new ≡ faults.old)
-        (Appends (F.contents faults.old) (F.contents faults.new))) result }
+        (streams_of R.remaining input.old input.new W.contents output.old output.new)
+        (effects_on input.old input.new output.old output.new F.contents faults.old faults.new) result }
 {
     match request_of(words) {
         Request::Page(page) => show(text_of(page), output),
         Request::View(view) => view_input(alloc, view, input, output, faults),
         Request::Mode(mode) => start_mode(alloc, mode, input, output, faults),
-        Request::Nothing(usage) => refuse(faults, usage),
+        Request::Nothing(refusal) => refuse_words(alloc, refusal, faults),
     }
 }
 
@@ -73,12 +73,9 @@ fn start_mode<R: Read, W: Write, F: Write>(
     output: &mut W,
     faults: &mut F,
 ) -> u8
-    ensures { Does
-        ⟦<TraceProvider as Provides>⟧.calls ⟦<PictureForm as SpanPainter>⟧.paints
-        (mode (plain_mode asked.entry))
-        (streams (R.remaining input.old) (R.remaining input.new) (W.contents output.old) (W.contents output.new))
-        (effects (input.new ≡ input.old) (output.new ≡ output.old) (faults.new ≡ faults.old)
-        (Appends (F.contents faults.old) (F.contents faults.new))) result }
+    ensures { Does ⟦<TraceProvider as Provides>⟧.calls ⟦<PictureForm as SpanPainter>⟧.paints
+        (mode (plain_mode asked.entry)) (streams_of R.remaining input.old input.new W.contents output.old output.new)
+        (effects_on input.old input.new output.old output.new F.contents faults.old faults.new) result }
 {
     if let Some(member) = asked.unread_attribute() {
         return name_attribute(alloc, member, faults);
@@ -100,10 +97,8 @@ fn show<W: Write>(text: &str, output: &mut W) -> u8
 
 /// Runs a mode, and says how that ended.
 fn run_mode<R: Read, W: Write>(alloc: Global, mode: Mode, input: &mut R, output: &mut W) -> RunEnd
-    ensures { RunsTo
-        ⟦<TraceProvider as Provides>⟧.calls ⟦<PictureForm as SpanPainter>⟧.paints (plain_mode mode.entry)
-        (streams (R.remaining input.old) (R.remaining input.new) (W.contents output.old) (W.contents output.new))
-        result }
+    ensures { RunsTo ⟦<TraceProvider as Provides>⟧.calls ⟦<PictureForm as SpanPainter>⟧.paints
+        (plain_mode mode.entry) (streams_of R.remaining input.old input.new W.contents output.old output.new) result }
 {
     match mode {
         Mode::Trace(asked) => run_trace(alloc, asked, input, output),
@@ -121,10 +116,8 @@ fn run_trace<R: Read, W: Write>(
     input: &mut R,
     output: &mut W,
 ) -> RunEnd
-    ensures { RunsTo
-        ⟦<TraceProvider as Provides>⟧.calls ⟦<PictureForm as SpanPainter>⟧.paints (trace asked)
-        (streams (R.remaining input.old) (R.remaining input.new) (W.contents output.old) (W.contents output.new))
-        result }
+    ensures { RunsTo ⟦<TraceProvider as Provides>⟧.calls ⟦<PictureForm as SpanPainter>⟧.paints (trace asked)
+        (streams_of R.remaining input.old input.new W.contents output.old output.new) result }
 {
     match make_provider(alloc, asked, false) {
         Ok(provider) => {
@@ -144,11 +137,9 @@ fn run_otlp<R: Read, W: Write>(
     input: &mut R,
     output: &mut W,
 ) -> RunEnd
-    ensures { RunsTo
-        ⟦<TraceProvider as Provides>⟧.calls ⟦<PictureForm as SpanPainter>⟧.paints
+    ensures { RunsTo ⟦<TraceProvider as Provides>⟧.calls ⟦<PictureForm as SpanPainter>⟧.paints
         (otlp export (map string_bytes given.now))
-        (streams (R.remaining input.old) (R.remaining input.new) (W.contents output.old) (W.contents output.new))
-        result }
+        (streams_of R.remaining input.old input.new W.contents output.old output.new) result }
 {
     let Ok(resource) = resource_of(alloc, given) else {
         return RunEnd::Failed;
@@ -168,10 +159,8 @@ fn run_picture<R: Read, W: Write>(
     input: &mut R,
     output: &mut W,
 ) -> RunEnd
-    ensures { RunsTo
-        ⟦<TraceProvider as Provides>⟧.calls ⟦<PictureForm as SpanPainter>⟧.paints (picture asked form)
-        (streams (R.remaining input.old) (R.remaining input.new) (W.contents output.old) (W.contents output.new))
-        result }
+    ensures { RunsTo ⟦<TraceProvider as Provides>⟧.calls ⟦<PictureForm as SpanPainter>⟧.paints
+        (picture asked form) (streams_of R.remaining input.old input.new W.contents output.old output.new) result }
 {
     match make_provider(alloc, asked, true) {
         Ok(provider) => draw_input(alloc, provider, &form, input, output),
@@ -201,6 +190,17 @@ fn refuse<F: Write>(faults: &mut F, text: &str) -> u8
         return FAILED;
     }
     REFUSED
+}
+
+/// Says what could be asked for and what is wrong, and answers the status for it.
+fn refuse_words<F: Write>(alloc: Global, refusal: Refusal<'_>, faults: &mut F) -> u8
+    ensures { (result ≡ 1)
+        ⊎ ((result ≡ 2) × Appends (F.contents faults.old) (F.contents faults.new) (refusal_text refusal)) }
+{
+    match refusal_text_of(alloc, refusal) {
+        Ok(text) => refuse(faults, text.as_str()),
+        Err(_) => FAILED,
+    }
 }
 
 /// Names an attribute that does not read, and answers the status for it.

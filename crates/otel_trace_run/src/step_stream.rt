@@ -5,7 +5,7 @@ ghost use Rattle.std.specs.Prelude.{◌≡◌, ◌++◌, ◌+◌, ◌⊎◌, Lis
 ghost use Rattle.std.specs.Io.KnownBytes.{Appends};
 ghost use Rattle.otel_export.specs.Streams.{AppendsBeginning};
 ghost use Rattle.otel_trace_run.specs.StepRuns.{Steps, StepsOn};
-ghost use Rattle.otel_trace_run.specs.Streams.{streams};
+ghost use Rattle.otel_trace_run.specs.Streams.{streams_of};
 ghost use Rattle.otel_trace_steps.specs.StepAnswers.{AnswersLines, BeginsAnswers, machine_of};
 
 use crate::line_count::{bad_line_after, lines_counted};
@@ -27,8 +27,7 @@ pub fn step_input<R: Read, W: Write>(
     output: &mut W,
 ) -> RunEnd
     ensures { Steps (machine_of sizes)
-        (streams (R.remaining input.old) (R.remaining input.new) (W.contents output.old) (W.contents output.new))
-        result }
+        (streams_of R.remaining input.old input.new W.contents output.old output.new) result }
 {
     match machine_sized(alloc, sizes) {
         Ok(mut machine) => {
@@ -50,8 +49,7 @@ fn step_stream<R: Read, W: Write>(
     output: &mut W,
 ) -> RunEnd
     ensures { StepsOn machine.old machine.new
-        (streams (R.remaining input.old) (R.remaining input.new) (W.contents output.old) (W.contents output.new))
-        result }
+        (streams_of R.remaining input.old input.new W.contents output.old output.new) result }
 {
     let mut pieces = Pieces::new(alloc);
     let mut answers = Vec::new(alloc);

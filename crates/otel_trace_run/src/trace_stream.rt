@@ -4,7 +4,7 @@
 ghost use Rattle.std.specs.Prelude.{◌≡◌, IfOk, OnErr, Result};
 ghost use Rattle.std.specs.Io.KnownBytes.{Appends};
 ghost use Rattle.otel_export.specs.Streams.{AppendsBeginning};
-ghost use Rattle.otel_trace_run.specs.Streams.{streams};
+ghost use Rattle.otel_trace_run.specs.Streams.{streams_of};
 ghost use Rattle.otel_trace_run.specs.TraceRuns.{
   CarriesOutSome,
   FedAs,
@@ -34,8 +34,8 @@ pub fn trace_input<P: KeepsBatches, S: ShouldSample, G: GivesIds, F: ReplyForm, 
     input: &mut R,
     output: &mut W,
 ) -> RunEnd
-    ensures { TracesUnder ⟦<ProviderOf<P, S, G> as Provides>⟧.calls (F.form form.old) provider (streams (R.remaining
-        input.old) (R.remaining input.new) (W.contents output.old) (W.contents output.new)) result }
+    ensures { TracesUnder ⟦<ProviderOf<P, S, G> as Provides>⟧.calls (F.form form.old) provider
+        (streams_of R.remaining input.old input.new W.contents output.old output.new) result }
 {
     match Session::new(alloc, provider) {
         Ok(session) => trace_session(alloc, session, form, input, output),
@@ -56,8 +56,8 @@ fn trace_session<P: KeepsBatches, S: ShouldSample, G: GivesIds, F: ReplyForm, R:
     input: &mut R,
     output: &mut W,
 ) -> RunEnd
-    ensures { Traces ⟦<ProviderOf<P, S, G> as Provides>⟧.calls (F.form form.old) session (streams (R.remaining
-        input.old) (R.remaining input.new) (W.contents output.old) (W.contents output.new)) result }
+    ensures { Traces ⟦<ProviderOf<P, S, G> as Provides>⟧.calls (F.form form.old) session
+        (streams_of R.remaining input.old input.new W.contents output.old output.new) result }
 {
     let mut text = Vec::new(alloc);
     let fed = feed_pieces(alloc, &mut session, form, &mut text, input, output);
@@ -89,8 +89,7 @@ fn feed_pieces<P: KeepsBatches, S: ShouldSample, G: GivesIds, F: ReplyForm, R: R
     output: &mut W,
 ) -> io::Result<RunEnd>
     ensures ok { IfOk result (λ end. FedAs ⟦<ProviderOf<P, S, G> as Provides>⟧.calls (F.form form.old) session.old
-        session.new (streams (R.remaining input.old) (R.remaining input.new) (W.contents output.old) (W.contents
-        output.new)) end) }
+        session.new (streams_of R.remaining input.old input.new W.contents output.old output.new) end) }
     ensures err { OnErr result (CarriesOutSome ⟦<ProviderOf<P, S, G> as Provides>⟧.calls (F.form form.old) session.old
         (R.remaining input.old) (AppendsBeginning (W.contents output.old) (W.contents output.new))) }
     ensures form { F.form form.new ≡ F.form form.old }

@@ -4,20 +4,11 @@
 ghost use Rattle.std.specs.Prelude.{◌≡◌, ◌≢◌, ◌⊎◌, [], IfOk, IfSome, MatchOption, OnOk, map, string_bytes};
 ghost use Rattle.std.specs.Io.KnownBytes.{Appends};
 ghost use Rattle.opentelemetry.specs.Text.{TextGrows};
-ghost use Rattle.otel_trace_run.specs.Streams.{streams};
-ghost use Rattle.otel_trace_run.specs.Views.{
-  BeginsView,
-  DrawsView,
-  IsViewOf,
-  ReadsView,
-  Tells,
-  Views,
-  fault_line,
-  fault_lines,
-  item_text,
-  notes_text,
-  place_text,
-};
+ghost use Rattle.otel_picture.specs.Drawn.{plain_traces};
+ghost use Rattle.otel_trace_run.specs.Streams.{streams_of};
+ghost use Rattle.otel_trace_run.specs.Views.{BeginsView, DrawsView, IsViewOf, ReadsView, StatusOf, Tells, Views};
+ghost use Rattle.otel_trace_run.specs.Views.{fault_line, fault_lines, found_in, found_line, item_text, notes_text};
+ghost use Rattle.otel_trace_run.specs.Views.{place_text, spanless_line};
 
 use crate::asked_view::{View, ViewForm};
 use crate::program::{DONE, FAILED, REFUSED};
@@ -28,12 +19,37 @@ use otel_shown::ShownSpan;
 use std::alloc::{AllocError, Global};
 use std::fmt::Write as _;
 use std::io::{Read, Write};
+use std::marker::Model;
 
-/// What is said of an input beside its view: what does not read, and how many requests have no spans.
+/// Whether anything is drawn.
+#[derive(Clone, Copy, Debug, PartialEq, Eq)]
+pub enum Found {
+    Traces,
+    /// The words choose none of the traces.
+    NoTrace,
+    /// The input has no spans that read.
+    NoSpan,
+}
+
+/// What is said of an input beside its view: what does not read, how many requests have no spans, and whether anything
+/// is drawn.
 #[derive(Drop)]
 struct Notes {
     faults: Vec<LineFault>,
     spanless: u64,
+    found: Found,
+}
+
+impl Model for Notes {
+    ghost use Rattle.otel_trace_run.specs.Views.{PlainNotes};
+
+    ghost Value = { PlainNotes };
+
+    ghost view = { λ notes. record {
+      faults = notes.faults.items;
+      spanless = notes.spanless;
+      found = notes.found;
+    } };
 }
 
 /// Draws an input, says what of it does not read, and answers the status for that.
@@ -44,8 +60,7 @@ pub(crate) fn view_input<R: Read, W: Write, F: Write>(
     output: &mut W,
     faults: &mut F,
 ) -> u8
-    ensures { Views view
-        (streams (R.remaining input.old) (R.remaining input.new) (W.contents output.old) (W.contents output.new))
+    ensures { Views view (streams_of R.remaining input.old input.new W.contents output.old output.new)
         (faults.new ≡ faults.old) (Appends (F.contents faults.old) (F.contents faults.new)) result }
 {
     match draw_view(alloc, view, input, output) {
@@ -62,11 +77,8 @@ fn draw_view<R: Read, W: Write>(
     output: &mut W,
 ) -> Option<Notes>
     ensures { MatchOption result
-        (BeginsView view
-        (streams (R.remaining input.old) (R.remaining input.new) (W.contents output.old) (W.contents output.new)))
-        (λ notes. DrawsView view
-        (streams (R.remaining input.old) (R.remaining input.new) (W.contents output.old) (W.contents output.new))
-        notes.faults.items notes.spanless) }
+        (BeginsView view (streams_of R.remaining input.old input.new W.contents output.old output.new))
+        (DrawsView view (streams_of R.remaining input.old input.new W.contents output.old output.new)) }
 {
     let (written, notes) = read_view(alloc, view, input)?;
     let Ok(()) = write_whole(output, &written) else {
@@ -78,9 +90,8 @@ fn draw_view<R: Read, W: Write>(
 /// Reads an input to its end, and gives what is written of its spans and what is said of it. The bytes of the
 /// input are given back before its spans are drawn. None where reading or memory failed.
 fn read_view<R: Read>(alloc: Global, view: View, input: &mut R) -> Option<(Vec<u8>, Notes)>
-    ensures { IfSome result (λ found.
-        ReadsView view (R.remaining input.old) (R.remaining input.new) found.0.items found.1.faults.items
-        found.1.spanless) }
+    ensures { IfSome result (λ read.
+        ReadsView view (R.remaining input.old) (R.remaining input.new) read.0.items read.1) }
 {
     let mut text = Vec::new(alloc);
     let Ok(_) = input.read_to_end(&mut text) else {
@@ -88,22 +99,42 @@ fn read_view<R: Read>(alloc: Global, view: View, input: &mut R) -> Option<(Vec<u
     };
     let read = read_text(alloc, &text).ok()?;
     drop(text);
-    let written = view_of(alloc, view, &read.spans).ok()?;
+    let (written, found) = view_of(alloc, view, &read.spans).ok()?;
     let notes = Notes {
         faults: read.faults,
         spanless: read.spanless,
+        found,
     };
     Some((written, notes))
 }
 
-/// What a view writes of spans.
-fn view_of(alloc: Global, view: View, spans: &[ShownSpan]) -> Result<Vec<u8>, AllocError>
-    ensures { IfOk result (λ written. IsViewOf view spans.now written.items) }
+/// What a view writes of spans, and whether anything is drawn.
+fn view_of(
+    alloc: Global,
+    view: View,
+    spans: &[ShownSpan],
+) -> Result<(Vec<u8>, Found), AllocError>
+    ensures { IfOk result (λ drawn. IsViewOf view spans.now drawn.0.items drawn.1) }
 {
     let traces = Traces::of(alloc, spans)?.chosen(alloc, view.choice)?;
-    match view.form {
-        ViewForm::Picture(form) => form.draw(alloc, &traces),
-        ViewForm::Summary => traces.to_summary(alloc),
+    let found = found_in(spans, &traces);
+    let written = match view.form {
+        ViewForm::Picture(form) => form.draw(alloc, &traces)?,
+        ViewForm::Summary => traces.to_summary(alloc)?,
+    };
+    Ok((written, found))
+}
+
+/// Whether anything is drawn of spans, of which these traces are chosen.
+fn found_in(spans: &[ShownSpan], chosen: &Traces<'_>) -> Found
+    ensures { result ≡ found_in spans.now (plain_traces chosen.now).traces }
+{
+    if spans.is_empty() {
+        Found::NoSpan
+    } else if chosen.is_empty() {
+        Found::NoTrace
+    } else {
+        Found::Traces
     }
 }
 
@@ -157,24 +188,42 @@ fn fault_lines(alloc: Global, found: &[LineFault]) -> Result<String, AllocError>
     Ok(said)
 }
 
+/// Appends that nothing is drawn, and why.
+fn push_found(said: &mut String, found: Found) -> Result<(), AllocError>
+    ensures { OnOk result (TextGrows said.old (found_line found) said.new) }
+{
+    match found {
+        Found::NoSpan => said.push_str("no spans to draw\n"),
+        Found::NoTrace => said.push_str("no such trace\n"),
+        Found::Traces => Ok(()),
+    }
+}
+
+/// Appends how many requests have no spans, if one has none.
+fn push_spanless(said: &mut String, spanless: u64) -> Result<(), AllocError>
+    ensures { OnOk result (TextGrows said.old (spanless_line spanless) said.new) }
+{
+    if spanless == 0 {
+        return Ok(());
+    }
+    write!(said, "requests without spans: {spanless}\n")
+}
+
 /// What is said of an input beside its view.
 fn notes_text(alloc: Global, notes: &Notes) -> Result<String, AllocError>
-    ensures { IfOk result (λ said. string_bytes said ≡ notes_text notes.now.faults.items notes.now.spanless) }
+    ensures { IfOk result (λ said. string_bytes said ≡ notes_text notes.now) }
 {
     let mut said = fault_lines(alloc, &notes.faults)?;
-    if notes.spanless != 0 {
-        let spanless = notes.spanless;
-        write!(said, "requests without spans: {spanless}\n")?;
-    }
+    push_spanless(&mut said, notes.spanless)?;
+    push_found(&mut said, notes.found)?;
     Ok(said)
 }
 
 /// Says that, if there is anything, and answers the status for it.
 fn tell<F: Write>(alloc: Global, notes: &Notes, faults: &mut F) -> u8
-    ensures { (result ≡ 1) ⊎ ((((result ≡ 0) × (notes.now.faults.items ≡ []))
-        ⊎ ((result ≡ 2) × (notes.now.faults.items ≢ [])))
+    ensures { (result ≡ 1) ⊎ (StatusOf notes.now result
         × Tells (faults.new ≡ faults.old) (Appends (F.contents faults.old) (F.contents faults.new))
-        (notes_text notes.now.faults.items notes.now.spanless)) }
+        (notes_text notes.now)) }
 {
     let Ok(said) = notes_text(alloc, notes) else {
         return FAILED;
