@@ -32,8 +32,8 @@ pub extern "C" fn otel_start_with(
     key: &mut u64,
 ) -> u32
     ensures answers { Answers result (λ p q. (asked : TheKinds) × IsKind kind asked × InPlaceOfGathered
-        (AreAttributesOf attributes.now) (λ a b. StartsIn ⟦<HostInside as Provides>⟧.calls (IsContextUnder a.spans parent) a
-        (asked_start tracer asked moment name.now) key.new b) p.inside q.inside)
+        (AreAttributesOf attributes.now) (λ a b. StartsIn ⟦<HostInside as Provides>⟧.calls
+        (IsContextUnder a.spans parent) a (asked_start tracer asked moment name.now) key.new b) p.inside q.inside)
         (λ p q. RefusesBeside ⟦<HostInside as Provides>⟧.calls p.inside q.inside)
         handle.old.held.pipeline handle.new.held.pipeline }
     ensures refused { result ≢ 0 → key.new ≡ key.old }
@@ -163,7 +163,8 @@ pub extern "C" fn otel_add_remote_link_with(
     tracestate: &[u8],
     attributes: &[HostAttribute<'_>],
 ) -> u32
-    ensures { Answers result (λ p q. InPlaceOfGathered (AreAttributesOf attributes.now) (λ a b. LinksToRemote a span (record {
+    ensures { Answers result (λ p q. InPlaceOfGathered (AreAttributesOf attributes.now) (λ a b.
+        LinksToRemote a span (record {
       traceparent = traceparent.now;
       tracestate = tracestate.now;
       baggage = [];

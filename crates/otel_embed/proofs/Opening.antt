@@ -13,7 +13,7 @@ use Rattle.otel_pipeline.specs.ProviderBuilder.{BuilderState, Builds}
 use Rattle.otel_pipeline.specs.declared.trace.span_processor.SpanProcessor.{Ghosts}
 use Rattle.otel_embed.specs.Conserved.{Hosted}
 use Rattle.otel_embed.specs.IgnoredSettings.{ListsIgnored}
-use Rattle.otel_embed.specs.Opening.{BeginsAs, IsProcessorOver, OpensBy, OpensWith}
+use Rattle.otel_embed.specs.Opening.{BeginsAs, IsProcessorOver, OpensBy, OpensOver, OpensWith, naming_library}
 use Rattle.otel_embed.specs.Pipelines.{PipelineState}
 use Rattle.otel_embed.specs.SettingLines.{AreStringsOf, IsMaxUndrained, processor_kind, settings_of}
 use Rattle.otel_embed.specs.declared.settings.ProcessorKind.{ProcessorKind}
@@ -35,21 +35,29 @@ module _ {P S G : Type 0} (calls : Ghosts P) (config : ConfigOf S G) (made : P) 
       let over_all = subst (λ (d : Bool). Builds calls (record (empty_builder batch d) { processors = made ∷ [] }) provider) off over_strings in
       subst (λ (p : ProviderState P S G). Builds calls (record (empty_builder batch is_disabled) { processors = made ∷ [] }) p) (sym same) over_all
 
--- what strings and a kind open, over an exporter that may keep so many spans, is what the settings open that they are of,
--- and what those open their text does
-pub opened_as : {C G : Type 0} (calls : Ghosts Hosted) (settings : TextMap) (strings : PlainConfigStrings) (kind : ProcessorKind) (max_spans : ℕ) (stored : StoredBatches) (seed : ℕ)
-    (pipeline : PipelineState Hosted (SamplerOf C) (IdSourceOf G)) (ignored : List ℕ) → AreStringsOf settings strings → kind ≡ processor_kind settings → IsMaxUndrained settings max_spans → stored ≡ record none_stored { max_spans = max_spans }
-    → BeginsAs calls (IsProcessorOver (exporters.Memory stored) kind) strings seed pipeline → ListsIgnored settings strings ignored → OpensWith calls settings seed pipeline ignored
-opened_as calls settings strings kind max_spans stored seed pipeline ignored are_strings is_kind is_max is_empty begins lists = record {
+-- what a kind opens over an exporter that may keep so many spans is what the settings open that they are of
+pub opened_over : {C G : Type 0} (calls : Ghosts Hosted) (settings : TextMap) (strings : PlainConfigStrings) (kind : ProcessorKind) (max_spans : ℕ) (stored : StoredBatches) (seed : ℕ)
+    (pipeline : PipelineState Hosted (SamplerOf C) (IdSourceOf G)) → kind ≡ processor_kind settings → IsMaxUndrained settings max_spans → stored ≡ record none_stored { max_spans = max_spans }
+    → BeginsAs calls (IsProcessorOver (exporters.Memory stored) kind) strings seed pipeline → OpensOver calls settings strings seed pipeline
+opened_over calls settings strings kind max_spans stored seed pipeline is_kind is_max is_empty begins = record {
   max_spans = max_spans;
   is_max = is_max;
-  strings = strings;
-  are_strings = are_strings;
   begins = subst (λ (k : ProcessorKind). BeginsAs calls (IsProcessorOver (exporters.Memory (record none_stored { max_spans = max_spans })) k) strings seed pipeline) is_kind
       (subst (λ (s : StoredBatches). BeginsAs calls (IsProcessorOver (exporters.Memory s) kind) strings seed pipeline) is_empty begins);
+}
+
+-- what settings open by their own strings, with the library named in these
+pub opened_with : {C G : Type 0} (calls : Ghosts Hosted) (settings : TextMap) (strings named : PlainConfigStrings) (seed : ℕ)
+    (pipeline : PipelineState Hosted (SamplerOf C) (IdSourceOf G)) (ignored : List ℕ) → AreStringsOf settings strings → named ≡ naming_library strings
+    → OpensOver calls settings named seed pipeline → ListsIgnored settings strings ignored → OpensWith calls settings seed pipeline ignored
+opened_with calls settings strings named seed pipeline ignored are_strings is_named opens lists = record {
+  strings = strings;
+  are_strings = are_strings;
+  opens = subst (λ (s : PlainConfigStrings). OpensOver calls settings s seed pipeline) is_named opens;
   lists = lists;
 }
 
+-- and what those open their text does
 pub opened_by : {C G : Type 0} (calls : Ghosts Hosted) (text given : List ℕ) (settings : TextMap) (seed : ℕ) (pipeline : PipelineState Hosted (SamplerOf C) (IdSourceOf G)) (ignored : List ℕ)
     → given ≡ text → settings ≡ settings_of given → OpensWith calls settings seed pipeline ignored → OpensBy calls text seed pipeline ignored
 opened_by calls text given settings seed pipeline ignored is_text are_settings opens =

@@ -1,5 +1,5 @@
 -- What a pipeline of a host begins as: nothing was started, exported or gathered.
-use Rattle.std.specs.Prelude.{◌≡◌, ℕ, List, [], ◌∷◌, codes, false}
+use Rattle.std.specs.Prelude.{◌≡◌, ℕ, List, [], ◌∷◌, ◌++◌, Some, codes, false, unwrap_or}
 use Rattle.opentelemetry.specs.Plain.{scope_named}
 use Rattle.opentelemetry.specs.TextMap.{TextMap}
 use Rattle.otel_batch.specs.PlainBatchConfig.{IsBatchConfigOf, PlainBatchConfig}
@@ -20,6 +20,7 @@ use Rattle.otel_embed.specs.HeldLines.{no_lines}
 use Rattle.otel_embed.specs.IgnoredSettings.{ListsIgnored}
 use Rattle.otel_embed.specs.Pipelines.{PipelineState, gone_on}
 use Rattle.otel_embed.specs.SettingLines.{AreStringsOf, IsMaxUndrained, processor_kind, settings_of}
+use Rattle.otel_embed.specs.declared.pipeline.TheConstants.{LIBRARY}
 use Rattle.otel_embed.specs.declared.settings.ProcessorKind.{ProcessorKind}
 use Rattle.otel_embed.specs.declared.settings.ProcessorKind.TheVariants as kinds
 
@@ -59,16 +60,26 @@ IsProcessorOver exporter kind strings made = MatchKind kind (made ≡ processors
     ((config : PlainBatchConfig) × IsBatchConfigOf strings config
     × (made ≡ processors.Batch (eager_processor exporter config)))
 
--- a pipeline that settings and a seed open: over an exporter in memory that stores nothing yet and may keep so many spans,
--- with a list of what is ignored
-pub record OpensWith {C G : Type 0} (calls : Ghosts Hosted) (settings : TextMap) (seed : ℕ)
-    (pipeline : PipelineState Hosted (SamplerOf C) (IdSourceOf G)) (ignored : List ℕ) : Type 0 where
+-- strings whose resource says first that this library made it, for C; what their own attributes say comes later, and wins
+abbrev pub naming_library : PlainConfigStrings → PlainConfigStrings
+naming_library strings = record strings { resource = record strings.resource
+    { attributes = Some (LIBRARY.now ++ unwrap_or strings.resource.attributes []) } }
+
+-- a pipeline that settings open by strings and a seed: over an exporter in memory that stores nothing yet and may keep so
+-- many spans
+pub record OpensOver {C G : Type 0} (calls : Ghosts Hosted) (settings : TextMap) (strings : PlainConfigStrings)
+    (seed : ℕ) (pipeline : PipelineState Hosted (SamplerOf C) (IdSourceOf G)) : Type 0 where
   pub max_spans : ℕ
   pub is_max : IsMaxUndrained settings max_spans
+  pub begins : BeginsAs calls (IsProcessorOver (exporters.Memory (record none_stored { max_spans = max_spans }))
+      (processor_kind settings)) strings seed pipeline
+
+-- the same by the strings that they are, with a list of what is ignored
+pub record OpensWith {C G : Type 0} (calls : Ghosts Hosted) (settings : TextMap) (seed : ℕ)
+    (pipeline : PipelineState Hosted (SamplerOf C) (IdSourceOf G)) (ignored : List ℕ) : Type 0 where
   pub strings : PlainConfigStrings
   pub are_strings : AreStringsOf settings strings
-  pub begins : BeginsAs calls (IsProcessorOver (exporters.Memory (record none_stored { max_spans = max_spans })) (processor_kind settings)) strings seed
-      pipeline
+  pub opens : OpensOver calls settings (naming_library strings) seed pipeline
   pub lists : ListsIgnored settings strings ignored
 
 -- a pipeline that a text of settings and a seed open

@@ -47,7 +47,8 @@ module _ {P S G : Type 0} (calls : Calls P S G) where
     pub in_context : InContext cx
     pub by_tracer : slice_get old.scopes asked.tracer ≡ Some scope
     pub starts : StartsAt calls.processor calls.sampler calls.ids old.flow.provider old.spans
-        (start_request scope (host_builder asked.name asked.kind old.gathered) cx asked.moment) key new.flow.provider new.spans
+        (start_request scope (host_builder asked.name asked.kind old.gathered) cx asked.moment) key
+        new.flow.provider new.spans
     pub rest : new ≡ record old
         { flow = record old.flow { provider = new.flow.provider }; spans = new.spans; gathered = [] }
 

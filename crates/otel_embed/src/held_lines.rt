@@ -153,7 +153,8 @@ fn whole_lines(lines: &[u8], room: usize) -> usize
 /// How many bytes the first line takes.
 fn first_line(lines: &[u8]) -> usize
     ensures within { result ≤ length lines.now }
-    ensures whole { (result ≡ length lines.now) ⊎ ((last : ℕ) × (result ≡ last + 1) × (slice_get lines.now last ≡ Some 10)) }
+    ensures whole { (result ≡ length lines.now)
+        ⊎ ((last : ℕ) × (result ≡ last + 1) × (slice_get lines.now last ≡ Some 10)) }
     ensures first { (k : ℕ) → k + 1 < result → slice_get lines.now k ≢ Some 10 }
 {
     match memchr(b'\n', lines) {

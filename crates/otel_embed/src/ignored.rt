@@ -34,7 +34,8 @@ pub(crate) fn push_unread_max(
     names: &mut String,
     values: &BTreeMap<String, String>,
 ) -> Result<(), AllocError>
-    ensures { OnOk result ((unread : List (List ℕ)) × NamesUnreadMax (get (text_map values.now) max_undrained_name) unread
+    ensures { OnOk result ((unread : List (List ℕ))
+        × NamesUnreadMax (get (text_map values.now) max_undrained_name) unread
         × (string_bytes names.new ≡ string_bytes names.old ++ name_lines unread)) }
 {
     match values.get(MAX_UNDRAINED_SPANS) {

@@ -1,8 +1,8 @@
 //! The pipeline of a host: a processor over an exporter in memory, by the settings that the host hands in.
 
 ghost use Rattle.std.specs.Prelude.{◌≡◌, ◌++◌, ◌∷◌, [], IfOk, OnErr, OnOk, string_bytes};
-ghost use Rattle.otel_embed.specs.Opening.{BeginsAs, GoesOn, MatchKind, OpensBy, OpensWith};
-ghost use Rattle.otel_embed.specs.SettingLines.{AreStringsOf, settings_of};
+ghost use Rattle.otel_embed.specs.Opening.{BeginsAs, GoesOn, MatchKind, OpensBy, OpensOver, OpensWith, naming_library};
+ghost use Rattle.otel_embed.specs.SettingLines.{settings_of};
 
 use crate::error::PipelineError;
 use crate::pipeline_of::PipelineOf;
@@ -52,6 +52,11 @@ impl Drop for Pipeline {
     }
 }
 
+/// The attributes by which a resource says that this library made it, for C (OpenTelemetry semantic conventions,
+/// "Telemetry SDK").
+pub const LIBRARY: &str =
+    "telemetry.sdk.name=otel_proved,telemetry.sdk.language=c,telemetry.sdk.version=0.1.0,";
+
 /// Adds a processor of a kind over this exporter.
 fn with_processor<P: FromExporter>(
     builder: ProviderBuilderOf<P, HostSampler, HostIds>,
@@ -97,26 +102,34 @@ fn pipeline_with<P: FromExporter>(
     Ok(PipelineOf::over(alloc, provider, resource, tracers))
 }
 
-/// A pipeline over an exporter in memory, by settings and the strings that they are; and the names of the settings that
-/// were ignored.
+/// Strings whose resource says first that this library made it, for C, unless their own attributes say otherwise.
+fn naming_library(alloc: Global, mut strings: ConfigStrings) -> Result<ConfigStrings, AllocError>
+    ensures { IfOk result (λ named. named ≡ naming_library strings) }
+{
+    let given = match &strings.resource.attributes {
+        Some(given) => given.as_str(),
+        None => "",
+    };
+    let attributes = format!(in alloc; "{LIBRARY}{given}")?;
+    strings.resource.attributes = Some(attributes);
+    Ok(strings)
+}
+
+/// A pipeline over an exporter in memory, by settings and strings.
 fn open_as(
     alloc: Global,
     settings: &Settings,
     strings: &ConfigStrings,
     seed: u64,
-) -> Result<(HostInside, String), AllocError>
-    requires { AreStringsOf settings.now strings.now }
-    ensures { IfOk result (λ opened. OpensWith
-        ⟦<HostProcessor as SpanProcessor>⟧ settings.now seed opened.0 (string_bytes opened.1)) }
+) -> Result<HostInside, AllocError>
+    ensures { IfOk result (OpensOver ⟦<HostProcessor as SpanProcessor>⟧ settings.now strings.now seed) }
 {
-    let ignored = settings.ignored(alloc, strings)?;
     let max_spans = settings.max_undrained_spans();
     let exporter = ExporterOf::Memory(InMemorySpanExporter::with_max_spans(alloc, max_spans));
-    let inside = pipeline_with(alloc, settings.processor_kind(), strings, seed, exporter)?;
-    Ok((inside, ignored))
+    pipeline_with(alloc, settings.processor_kind(), strings, seed, exporter)
 }
 
-/// The same, by settings alone.
+/// The same, by settings alone; and the names of those that were ignored.
 fn open_with(
     alloc: Global,
     settings: &Settings,
@@ -126,9 +139,11 @@ fn open_with(
         ⟦<HostProcessor as SpanProcessor>⟧ settings.now seed opened.0 (string_bytes opened.1)) }
 {
     let strings = settings.strings(alloc)?;
-    let opened = open_as(alloc, settings, &strings, seed);
-    drop(strings);
-    opened
+    let ignored = settings.ignored(alloc, &strings)?;
+    let named = naming_library(alloc, strings)?;
+    let opened = open_as(alloc, settings, &named, seed);
+    drop(named);
+    Ok((opened?, ignored))
 }
 
 impl Pipeline {

@@ -100,9 +100,13 @@ pub fn each_answer_ends_a_span<
         ⟦<Tracing<P, S, G, C, T> as HoldsSpans>⟧ V.serves old calls new }
 {}
 
+/// The propagator of W3C's headers.
+type W3cPropagator = CompositePropagator<TraceContextPropagator, StrictBaggagePropagator>;
+
 /// Where no span is current, a scope whose propagator is that of W3C reads of headers the context that they carry.
 pub fn scopes_read_what_headers_carry<P: SpanProcessor, S: ShouldSample, G: GivesIds, C: Now>()
     ensures { (scope : Tracing P S G C (CompositePropagator TraceContextPropagator StrictBaggagePropagator))
         (headers : Headers) (cx : PlainContext)
-        → ⟦<Tracing<P, S, G, C, CompositePropagator<TraceContextPropagator, StrictBaggagePropagator>> as HoldsSpans>⟧.extracts scope root_cx (header_texts headers) cx → IsContextOf headers cx }
+        → ⟦<Tracing<P, S, G, C, W3cPropagator> as HoldsSpans>⟧.extracts scope root_cx (header_texts headers) cx
+        → IsContextOf headers cx }
 {}
