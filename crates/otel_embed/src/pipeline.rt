@@ -126,7 +126,8 @@ fn open_as(
 {
     let max_spans = settings.max_undrained_spans();
     let exporter = ExporterOf::Memory(InMemorySpanExporter::with_max_spans(alloc, max_spans));
-    pipeline_with(alloc, settings.processor_kind(), strings, seed, exporter)
+    let inside = pipeline_with(alloc, settings.processor_kind(), strings, seed, exporter)?;
+    Ok(inside)
 }
 
 /// The same, by settings alone; and the names of those that were ignored.
@@ -143,7 +144,8 @@ fn open_with(
     let named = naming_library(alloc, strings)?;
     let opened = open_as(alloc, settings, &named, seed);
     drop(named);
-    Ok((opened?, ignored))
+    let inside = opened?;
+    Ok((inside, ignored))
 }
 
 impl Pipeline {

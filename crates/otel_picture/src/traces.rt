@@ -1,6 +1,6 @@
 //! Traces as they are drawn: of each its spans, and a row a span.
 
-ghost use Rattle.std.specs.Prelude.{◌<◌, ◌==◌, All, IfOk, length, map};
+ghost use Rattle.std.specs.Prelude.{◌≡◌, ◌<◌, ◌==◌, All, IfOk, length, map};
 ghost use Rattle.otel_picture.specs.Traces.{AllHaveSpans, AreTraces, IsTraceAt, plain_trace};
 
 use crate::families::{Group, family_of, groups_of};

@@ -13,3 +13,4 @@ pub mod Streams
 pub mod TraceRuns
 pub mod Views
 pub mod Words
+pub mod WrongWords

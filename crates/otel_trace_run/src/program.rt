@@ -195,7 +195,7 @@ fn refuse<F: Write>(faults: &mut F, text: &str) -> u8
 /// Says what could be asked for and what is wrong, and answers the status for it.
 fn refuse_words<F: Write>(alloc: Global, refusal: Refusal<'_>, faults: &mut F) -> u8
     ensures { (result ≡ 1)
-        ⊎ ((result ≡ 2) × Appends (F.contents faults.old) (F.contents faults.new) (refusal_text refusal)) }
+        ⊎ ((result ≡ 2) × Appends (F.contents faults.old) (F.contents faults.new) (refusal_text refusal.entry)) }
 {
     match refusal_text_of(alloc, refusal) {
         Ok(text) => refuse(faults, text.as_str()),

@@ -64,7 +64,7 @@ pub(crate) fn refusal_of(words: &[String]) -> Refusal<'_>
 
 /// The text of that.
 pub(crate) fn text_of(alloc: Global, refusal: Refusal<'_>) -> Result<String, AllocError>
-    ensures { IfOk result (λ text. string_bytes text ≡ refusal_text refusal) }
+    ensures { IfOk result (λ text. string_bytes text ≡ refusal_text refusal.entry) }
 {
     let usage = refusal.usage;
     match refusal.wrong {
