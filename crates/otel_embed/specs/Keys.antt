@@ -1,9 +1,10 @@
 -- The open spans of a pipeline by their keys: numbers from 1 on, each of which names one span for ever.
-use Rattle.std.specs.Prelude.{◌≡◌, ◌≤◌, ◌<◌, ◌+◌, ℕ, List, Option, Some, None, IsSome, if◌then◌else◌}
+use Rattle.std.specs.Prelude.{◌≡◌, ◌≤◌, ◌<◌, ◌+◌, ◌==◌, ◌||◌, ℕ, List, Option, Some, None, IsSome, if◌then◌else◌}
 use Rattle.std.specs.Ordering.{nat_cmp}
 use Rattle.std.specs.BTreeMap.{is_at}
 use Rattle.std.specs.Map.{lookup}
 use Rattle.opentelemetry.specs.Plain.{PlainContext}
+use Rattle.otel_pipeline.specs.InSpan.{active_in}
 use Rattle.otel_pipeline.specs.SpanHistory.{Edit, PlainSpan, after}
 use Rattle.otel_embed.specs.declared.error.PipelineError.{PipelineError}
 use Rattle.otel_embed.specs.declared.error.PipelineError.TheVariants as errors
@@ -12,6 +13,13 @@ use Rattle.otel_embed.specs.declared.error.PipelineError.TheVariants as errors
 pub record OpenedSpan : Type 0 where
   pub span : PlainSpan
   pub cx : PlainContext
+
+-- the context in which an open span is active; where it has no ids, as after a shutdown, the context that it was
+-- started in, which passes its parent on
+abbrev pub context_of : OpenedSpan → PlainContext
+context_of opened =
+    if (opened.span.span_context.trace_id == 0) || (opened.span.span_context.span_id == 0) then opened.cx
+    else active_in opened.cx opened.span
 
 -- the spans that are open, and the key that the next one gets
 pub record OpenedSpans : Type 0 where

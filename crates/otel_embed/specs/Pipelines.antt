@@ -6,7 +6,6 @@ use Rattle.opentelemetry.specs.Plain.{PlainContext, PlainKeyValue, PlainScope}
 use Rattle.opentelemetry.specs.PlainContexts.{current_span_context}
 use Rattle.otel_resource.specs.Resource.{PlainResource}
 use Rattle.otel_pipeline.specs.Ending.{EndIsInfallible, Ends}
-use Rattle.otel_pipeline.specs.InSpan.{active_in}
 use Rattle.otel_pipeline.specs.Provider.{ProviderState}
 use Rattle.otel_pipeline.specs.SpanEdits.{new_link}
 use Rattle.otel_pipeline.specs.SpanHistory.{Edit, add_link}
@@ -14,7 +13,7 @@ use Rattle.otel_pipeline.specs.declared.trace.span_processor.SpanProcessor.{Ghos
 use Rattle.otel_embed.specs.Flows.{Flow}
 use Rattle.otel_embed.specs.Headers.{IsContextOf, PlainHeaders, SetsContext, header_lines}
 use Rattle.otel_embed.specs.HeldLines.{no_lines}
-use Rattle.otel_embed.specs.Keys.{Closes, EditsAt, OpenedSpan, OpenedSpans, SameSpans, span_at}
+use Rattle.otel_embed.specs.Keys.{Closes, EditsAt, OpenedSpan, OpenedSpans, SameSpans, context_of, span_at}
 use Rattle.otel_embed.specs.declared.span_calls.SpanIdentity.{SpanIdentity}
 
 -- a pipeline: its flow, the scopes of its tracers, its open spans, the attributes that were gathered for what comes
@@ -118,7 +117,7 @@ pub record LinksTo {P S G : Type 0} (old : PipelineState P S G) (key linked : �
 pub record SetsHeadersOf {P S G : Type 0} (pipeline : PipelineState P S G) (key : ℕ) (old new : Texts) : Type 0 where
   pub found : OpenedSpan
   pub is_open : span_at pipeline.spans key ≡ Some found
-  pub sets : SetsContext (active_in found.cx found.span) old new
+  pub sets : SetsContext (context_of found) old new
 
 -- the lines of the headers that hand a span on
 pub record SaysHeaders {P S G : Type 0} (pipeline : PipelineState P S G) (key : ℕ) (lines : List ℕ) : Type 0 where

@@ -5,17 +5,16 @@ use Rattle.opentelemetry.specs.PlainContexts.{root_cx}
 use Rattle.opentelemetry.specs.PlainSpanBuilder.{PlainSpanBuilder}
 use Rattle.opentelemetry.specs.declared.trace.span_kind.SpanKind.{SpanKind}
 use Rattle.otel_pipeline.specs.Calls.{Calls}
-use Rattle.otel_pipeline.specs.InSpan.{active_in}
 use Rattle.otel_pipeline.specs.StartRequest.{StartRequest, start_request}
 use Rattle.otel_embed.specs.Flows.{MayStart}
-use Rattle.otel_embed.specs.Keys.{OpenedSpan, OpenedSpans, SameSpans, span_at}
+use Rattle.otel_embed.specs.Keys.{OpenedSpan, OpenedSpans, SameSpans, context_of, span_at}
 use Rattle.otel_embed.specs.KeyedSpans.{StartsAt}
 use Rattle.otel_embed.specs.Pipelines.{PipelineState, taken}
 
 -- the context of a start under a parent: that in which the span of its key is active, and for 0 that of a root
 abbrev pub IsContextUnder : OpenedSpans → ℕ → PlainContext → Type 0
 IsContextUnder spans parent cx = MatchBool (parent == 0) (cx ≡ root_cx)
-    ((found : OpenedSpan) × (span_at spans parent ≡ Some found) × (cx ≡ active_in found.cx found.span))
+    ((found : OpenedSpan) × (span_at spans parent ≡ Some found) × (cx ≡ context_of found))
 
 -- how a host asks for a span to start: its tracer by number, its kind, its moment and its name
 pub record AskedStart : Type 0 where

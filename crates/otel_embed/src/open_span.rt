@@ -3,11 +3,11 @@
 
 ghost use Rattle.std.specs.Prelude.{◌≡◌, IfOk, IsOk, OnErr, OnOk};
 ghost use Rattle.otel_pipeline.specs.Ending.{EndIsInfallible, Ends};
-ghost use Rattle.otel_pipeline.specs.InSpan.{active_in};
 ghost use Rattle.otel_pipeline.specs.SpanHistory.{after};
+ghost use Rattle.otel_embed.specs.Keys.{context_of};
 
 use crate::changes_span::ChangesSpan;
-use opentelemetry::{Context, Moment};
+use opentelemetry::{Context, Moment, SpanId, TraceId};
 use otel_pipeline::trace::{ProviderOf, Span, SpanProcessor, context_inside};
 use std::alloc::AllocError;
 use std::marker::Model;
@@ -35,10 +35,15 @@ impl Drop for OpenSpan {
 }
 
 impl OpenSpan {
-    /// The context in which the span is active, with all else that the context has that it was started in.
+    /// The context in which the span is active, with all else that the context has that it was started in. A span that
+    /// nobody knows, as one of a pipeline that is shut down, passes on the span that was active there.
     pub(crate) fn active_context(&self) -> Result<Context, AllocError>
-        ensures { IfOk result (λ cx. cx ≡ active_in self.now.cx self.now.span) }
+        ensures { IfOk result (λ cx. cx ≡ context_of self.now) }
     {
+        let span_context = self.span.span_context();
+        if span_context.trace_id() == TraceId::INVALID || span_context.span_id() == SpanId::INVALID {
+            return self.cx.clone();
+        }
         context_inside(&self.cx, &self.span)
     }
 
