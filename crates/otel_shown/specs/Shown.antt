@@ -1,15 +1,22 @@
 -- What contracts see of a span as a picture shows it, and which one shows an exported span.
 use Rattle.std.specs.Prelude.{ℕ, List, ◌∷◌, ◌++◌, map}
 use Rattle.std.specs.List.{flat_map}
-use Rattle.opentelemetry.specs.Plain.{PlainEvent, PlainKeyValue, PlainStatus}
+use Rattle.opentelemetry.specs.Plain.{PlainEvent, PlainKeyValue, PlainLink, PlainStatus}
 use Rattle.opentelemetry.specs.ValueText.{value_text}
 use Rattle.opentelemetry.specs.declared.trace.span_kind.SpanKind.{SpanKind}
 use Rattle.otel_export.specs.PlainSpanData.{PlainSpanData}
 
--- when something happened within a span, and what it is called
+-- when something happened within a span, what it is called, and its attributes as one text
 pub record PlainShownEvent : Type 0 where
   pub timestamp : ℕ
   pub name : List ℕ
+  pub attributes : List ℕ
+
+-- which span a span points to, and the attributes of that relation as one text
+pub record PlainShownLink : Type 0 where
+  pub trace_id : ℕ
+  pub span_id : ℕ
+  pub attributes : List ℕ
 
 -- what a picture shows of a span; its attributes are one text, its parent is zero where it has none
 pub record PlainShownSpan : Type 0 where
@@ -24,6 +31,7 @@ pub record PlainShownSpan : Type 0 where
   pub status : PlainStatus
   pub attributes : List ℕ
   pub events : List PlainShownEvent
+  pub links : List PlainShownLink
 
 -- a line feed, a key, an equals sign and the text of a value
 abbrev pub pair_line : List ℕ → List ℕ → List ℕ
@@ -37,9 +45,21 @@ attribute_line attribute = pair_line attribute.key (value_text attribute.value)
 abbrev pub attribute_lines : List PlainKeyValue → List ℕ
 attribute_lines attributes = flat_map attribute_line attributes
 
--- an event without its attributes
+-- an event, without the count of the attributes that it lost
 abbrev pub shown_event : PlainEvent → PlainShownEvent
-shown_event event = record { timestamp = event.timestamp; name = event.name }
+shown_event event = record {
+  timestamp = event.timestamp;
+  name = event.name;
+  attributes = attribute_lines event.attributes;
+}
+
+-- a link, by the ids of its span alone
+abbrev pub shown_link : PlainLink → PlainShownLink
+shown_link link = record {
+  trace_id = link.span_context.trace_id;
+  span_id = link.span_context.span_id;
+  attributes = attribute_lines link.attributes;
+}
 
 -- an exported span of a service
 abbrev pub shown_span : List ℕ → PlainSpanData → PlainShownSpan
@@ -55,4 +75,5 @@ shown_span service span = record {
   status = span.status;
   attributes = attribute_lines span.attributes;
   events = map shown_event span.events.events;
+  links = map shown_link span.links.links;
 }

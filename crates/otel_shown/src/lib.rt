@@ -4,7 +4,9 @@
 #![tactic(auto)]
 
 mod shown_event;
+mod shown_link;
 mod shown_span;
 
 pub use shown_event::ShownEvent;
+pub use shown_link::ShownLink;
 pub use shown_span::ShownSpan;

@@ -3,11 +3,13 @@
 use opentelemetry::Moment;
 use std::marker::Model;
 
-/// When something happened within a span, and what it is called.
+/// When something happened within a span, what it is called, and its attributes.
 #[derive(Debug, Drop)]
 pub struct ShownEvent {
     pub timestamp: Moment,
     pub name: String,
+    /// Lines as those of a span's attributes.
+    pub attributes: String,
 }
 
 impl Model for ShownEvent {
@@ -16,5 +18,9 @@ impl Model for ShownEvent {
 
     ghost Value = { PlainShownEvent };
 
-    ghost view = { λ event. record { timestamp = event.timestamp.0; name = string_bytes event.name } };
+    ghost view = { λ event. record {
+      timestamp = event.timestamp.0;
+      name = string_bytes event.name;
+      attributes = string_bytes event.attributes;
+    } };
 }

@@ -2,10 +2,10 @@
 
 ghost use Rattle.std.specs.Prelude.{◌≡◌, IfOk, OnOk, map, string_bytes};
 ghost use Rattle.opentelemetry.specs.Text.{TextGrows};
-ghost use Rattle.otel_shown.specs.Shown.{attribute_line, attribute_lines, shown_event, shown_span};
+ghost use Rattle.otel_shown.specs.Shown.{attribute_line, attribute_lines, shown_event, shown_link, shown_span};
 
-use crate::ShownEvent;
-use opentelemetry::trace::{SpanKind, Status};
+use crate::{ShownEvent, ShownLink};
+use opentelemetry::trace::{Event, Link, SpanKind, Status};
 use opentelemetry::{KeyValue, Moment, SpanId, TraceId, Value};
 use otel_export::trace::{SpanData, SpanEvents};
 use std::alloc::{AllocError, Global};
@@ -30,10 +30,12 @@ pub struct ShownSpan {
     pub attributes: String,
     /// Its events in the order in which they were recorded.
     pub events: Vec<ShownEvent>,
+    /// The spans that it points to, in the order in which they were recorded.
+    pub links: Vec<ShownLink>,
 }
 
 // A summary of a file keeps all of its spans.
-const _: () = prove!(std::mem::size_of::<ShownSpan>() <= 192);
+const _: () = prove!(std::mem::size_of::<ShownSpan>() <= 216);
 
 impl Model for ShownSpan {
     ghost use Rattle.std.specs.Prelude.{string_bytes};
@@ -54,6 +56,7 @@ impl Model for ShownSpan {
       status = plain_status a.status;
       attributes = string_bytes a.attributes;
       events = a.events.items;
+      links = a.links.items;
     } };
 }
 
@@ -63,6 +66,7 @@ impl ShownSpan {
         ensures { IfOk result (λ shown. shown ≡ shown_span (string_bytes service) span) }
     {
         let attributes = attribute_lines(alloc, span.attributes.as_slice())?;
+        let links = shown_links(alloc, span.links.links.as_slice())?;
         let trace_id = span.span_context.trace_id();
         let span_id = span.span_context.span_id();
         let events = shown_events(alloc, span.events)?;
@@ -78,6 +82,7 @@ impl ShownSpan {
             status: span.status,
             attributes,
             events,
+            links,
         })
     }
 }
@@ -106,16 +111,47 @@ fn attribute_lines(alloc: Global, attributes: &[KeyValue]) -> Result<String, All
     Ok(text)
 }
 
-/// Events without their attributes, in order. Their names move.
+/// An event. Its name moves; its attributes become one text.
+fn shown_event(alloc: Global, event: Event) -> Result<ShownEvent, AllocError>
+    ensures { IfOk result (λ shown. shown ≡ shown_event event) }
+{
+    let attributes = attribute_lines(alloc, event.attributes.as_slice())?;
+    Ok(ShownEvent {
+        timestamp: event.timestamp,
+        name: event.name,
+        attributes,
+    })
+}
+
+/// Events, in order.
 fn shown_events(alloc: Global, kept: SpanEvents) -> Result<Vec<ShownEvent>, AllocError>
     ensures { IfOk result (λ events. events.items ≡ map shown_event kept.events) }
 {
     let mut events = Vec::with_capacity(alloc, kept.events.len())?;
     for event in kept.events {
-        events.push(ShownEvent {
-            timestamp: event.timestamp,
-            name: event.name,
-        })?;
+        events.push(shown_event(alloc, event)?)?;
     }
     Ok(events)
+}
+
+/// A link, whose attributes become one text.
+fn shown_link(alloc: Global, link: &Link) -> Result<ShownLink, AllocError>
+    ensures { IfOk result (λ shown. shown ≡ shown_link link.now) }
+{
+    Ok(ShownLink {
+        trace_id: link.span_context.trace_id(),
+        span_id: link.span_context.span_id(),
+        attributes: attribute_lines(alloc, link.attributes.as_slice())?,
+    })
+}
+
+/// Links, in order.
+fn shown_links(alloc: Global, kept: &[Link]) -> Result<Vec<ShownLink>, AllocError>
+    ensures { IfOk result (λ links. links.items ≡ map shown_link kept.now) }
+{
+    let mut links = Vec::with_capacity(alloc, kept.len())?;
+    for link in kept {
+        links.push(shown_link(alloc, link)?)?;
+    }
+    Ok(links)
 }
