@@ -6,27 +6,29 @@ use Rattle.std.proofs.lemmas.List.Concat.{flat_map_single}
 use Rattle.std.specs.Fmt.{decimal}
 use Rattle.std.specs.List.{AllByRecursion}
 use Rattle.opentelemetry.specs.Hex.{hex_text}
-use Rattle.opentelemetry.specs.Plain.{PlainEvent, PlainKeyValue, PlainStatus, unset, error, ok}
+use Rattle.opentelemetry.specs.Plain.{PlainEvent, PlainKeyValue, PlainLink, PlainStatus, unset, error, ok}
 use Rattle.opentelemetry.specs.declared.trace.span_kind.SpanKind.{SpanKind}
 use Rattle.opentelemetry.specs.declared.trace.span_kind.SpanKind.TheVariants as kinds
 use Rattle.otel_export.specs.PlainSpanData.{PlainSpanData}
-use Rattle.otel_otlp.specs.Fits.{AttributeFits, EventFits, SpanFits}
-use Rattle.otel_otlp.specs.OtlpSpan.{event_json, kind_number, parent_text, span_json, status_json}
+use Rattle.otel_otlp.specs.Fields.{items_of}
+use Rattle.otel_otlp.specs.Fits.{AttributeFits, EventFits, LinkFits, SpanFits}
+use Rattle.otel_otlp.specs.OtlpSpan.{event_json, kind_number, link_json, parent_text, span_json, status_json}
 use Rattle.otel_otlp.specs.OtlpValues.{attribute_json}
-use Rattle.otel_shown.specs.Shown.{PlainShownEvent, shown_event}
+use Rattle.otel_shown.specs.Shown.{shown_event, shown_link}
 use Rattle.otel_shown.specs.Shown as shown
 use Rattle.otel_otlp_read.specs.declared.fault.Fault.TheVariants as faults
 use Rattle.otel_otlp_read.specs.declared.left_out.ItemList.{ItemList}
 use Rattle.otel_otlp_read.specs.declared.left_out.ItemList.TheVariants as lists
 use Rattle.otel_otlp_read.specs.Kept.{kept_from}
-use Rattle.otel_otlp_read.specs.Reading.{◌>>=◌, needed, only}
+use Rattle.otel_otlp_read.specs.Members.{listed}
+use Rattle.otel_otlp_read.specs.Reading.{◌>>=◌, joined, needed, only}
 use Rattle.otel_otlp_read.specs.Requests.{whole_span}
 use Rattle.otel_otlp_read.specs.Numbers.{id_of, is_integer, moment_of, parent_number, parent_of, whole_number}
-use Rattle.otel_otlp_read.specs.SpanParts.{attribute_line, attributes_of, event_in, events_of, kind_of}
-use Rattle.otel_otlp_read.specs.SpanParts.{numbered_code, numbered_kind, span_in, status_in, status_of}
+use Rattle.otel_otlp_read.specs.SpanLists.{attribute_line, attributes_of, event_in, events_of, lines_of, link_in, links_of}
+use Rattle.otel_otlp_read.specs.SpanParts.{kind_of, numbered_code, numbered_kind, span_in, status_in, status_of}
 use Rattle.otel_otlp_read.proofs.DigitsRead.{decimal_whole, hex_id, hex_parent, signed_integer}
 use Rattle.otel_otlp_read.proofs.KeptReading.{kept_back}
-use Rattle.otel_otlp_read.proofs.ValuesRead.{attribute_back, listed-items_of}
+use Rattle.otel_otlp_read.proofs.ValuesRead.{attribute_back, joined_back, listed-items_of}
 
 -- a moment
 moment_back : (n : ℕ) → n < 2 ^ 64 → needed faults.TimeForm (whole_number (decimal n)) ≡ Ok n
@@ -60,11 +62,40 @@ status_back unset = rw (decimal_whole 0 (omega arith), digit_integer 0 (omega ar
 status_back ok = rw (decimal_whole 1 (omega arith)) refl
 status_back (error description) = rw (decimal_whole 2 (omega arith)) refl
 
+-- the attributes of an event or a link
+attribute_lines_back : (attributes : List PlainKeyValue) → AllByRecursion AttributeFits attributes
+    → joined attribute_line (listed (items_of (map attribute_json attributes))) ≡ Ok (shown.attribute_lines attributes)
+attribute_lines_back attributes h =
+    ap (joined attribute_line) (listed-items_of (map attribute_json attributes))
+    ∙ joined_back attribute_json attribute_line shown.attribute_line AttributeFits attribute_back attributes h
+
 -- an event
+event_lines_back : (event : PlainEvent) → EventFits event
+    → lines_of (event_json event) ≡ Ok (shown.attribute_lines event.attributes)
+unfolding lines_of
+event_lines_back event h = attribute_lines_back event.attributes h.attributes
+
 event_back : (event : PlainEvent) → EventFits event → event_in (event_json event) ≡ Ok (shown_event event)
 unfolding event_in
 event_back event h =
-    ap (λ r. r >>= λ timestamp. Ok (record { timestamp = timestamp; name = event.name })) (moment_back event.timestamp h.timestamp)
+    ap (λ r. r >>= λ timestamp. lines_of (event_json event)
+    >>= λ lines. Ok (record { timestamp = timestamp; name = event.name; attributes = lines }))
+    (moment_back event.timestamp h.timestamp)
+    ∙ ap (λ r. r >>= λ lines. Ok (record { timestamp = event.timestamp; name = event.name; attributes = lines }))
+    (event_lines_back event h)
+
+-- a link
+link_lines_back : (link : PlainLink) → LinkFits link → lines_of (link_json link) ≡ Ok (shown.attribute_lines link.attributes)
+unfolding lines_of
+link_lines_back link h = attribute_lines_back link.attributes h.attributes
+
+link_back : (link : PlainLink) → LinkFits link → link_in (link_json link) ≡ Ok (shown_link link)
+unfolding link_in
+link_back link h = rw (
+  hex_id 32 link.span_context.trace_id (omega (arith, h.span_context.trace_id)),
+  hex_id 16 link.span_context.span_id (omega (arith, h.span_context.span_id)),
+  link_lines_back link h,
+) refl
 
 -- attributes, as they stand in a member: none is left out
 attributes_back : (list : ItemList) (attributes : List PlainKeyValue) → AllByRecursion AttributeFits attributes
@@ -80,6 +111,15 @@ all_events_back list events h =
     kept_back (λ item. only (event_in item)) list event_json (λ e. shown_event e ∷ []) EventFits
     (λ e k. ap only (event_back e k)) 1 events h
     ∙ ap (λ kept. record { kept = kept; left_out = [] }) (flat_map_single shown_event events)
+
+-- and links
+all_links_back : (list : ItemList) (links : List PlainLink) → AllByRecursion LinkFits links
+    → kept_from (λ item. only (link_in item)) list 1 (map link_json links)
+    ≡ record { kept = map shown_link links; left_out = [] }
+all_links_back list links h =
+    kept_back (λ item. only (link_in item)) list link_json (λ l. shown_link l ∷ []) LinkFits
+    (λ l k. ap only (link_back l k)) 1 links h
+    ∙ ap (λ kept. record { kept = kept; left_out = [] }) (flat_map_single shown_link links)
 
 -- the members of a span that is written
 module _ (span : PlainSpanData) (h : SpanFits span) where
@@ -125,6 +165,14 @@ module _ (span : PlainSpanData) (h : SpanFits span) where
       (listed-items_of (map event_json span.events.events))
       ∙ ap Ok (all_events_back (lists.SpanEvents span_id) span.events.events h.events)
 
+  span_links_back : (span_id : ℕ)
+      → links_of span_id (span_json span) ≡ Ok (record { kept = map shown_link span.links.links; left_out = [] })
+  unfolding links_of
+  span_links_back span_id =
+      ap (λ js. Ok (kept_from (λ item. only (link_in item)) (lists.SpanLinks span_id) 1 js))
+      (listed-items_of (map link_json span.links.links))
+      ∙ ap Ok (all_links_back (lists.SpanLinks span_id) span.links.links h.links)
+
   pub span_back : (service : List ℕ) → span_in service (span_json span) ≡ Ok (whole_span service span)
   unfolding span_in
   span_back service =
@@ -138,4 +186,5 @@ module _ (span : PlainSpanData) (h : SpanFits span) where
         span_status_back,
         span_attributes_back span.span_context.span_id,
         span_events_back span.span_context.span_id,
+        span_links_back span.span_context.span_id,
       ) refl

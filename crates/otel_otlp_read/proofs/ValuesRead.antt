@@ -28,7 +28,7 @@ use Rattle.otel_otlp_read.specs.Reading.{◌>>=◌, joined, needed}
 use Rattle.otel_otlp_read.specs.Members.{listed, or_default, unless_null}
 use Rattle.otel_otlp_read.specs.AnyValue.{after_comma, comma_joined, double_of, kind_count, shown_item, shown_list}
 use Rattle.otel_otlp_read.specs.AnyValue.{shown_pair, shown_scalar, shown_value, shown_with}
-use Rattle.otel_otlp_read.specs.SpanParts.{attribute_line}
+use Rattle.otel_otlp_read.specs.SpanLists.{attribute_line}
 use Rattle.otel_otlp_read.proofs.DigitsRead.{signed_integer}
 
 -- the items of an array that was written

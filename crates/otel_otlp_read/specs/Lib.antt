@@ -4,6 +4,7 @@ pub mod Members
 pub mod Kept
 pub mod Numbers
 pub mod AnyValue
+pub mod SpanLists
 pub mod SpanParts
 pub mod Requests
 pub mod Inputs

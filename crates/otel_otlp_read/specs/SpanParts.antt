@@ -1,23 +1,20 @@
--- A span of a request, with its kind, its status, its attributes and its events. What is not shown is not looked at. An
--- attribute or an event that does not read is left out.
-use Rattle.std.specs.Prelude.{ℕ, List, ◌∷◌, ◌++◌, codes, Result, Ok, Err, if◌then◌else◌, false}
+-- A span of a request, with its kind and its status. What is not shown is not looked at.
+use Rattle.std.specs.Prelude.{ℕ, List, ◌++◌, codes, Result, Ok, Err, if◌then◌else◌}
 use Rattle.std.specs.Str.{bytes_eq}
 use Rattle.json.specs.Json.{Json, null, boolean, number, string, array, object}
 use Rattle.opentelemetry.specs.Plain.{PlainStatus, unset, error, ok}
 use Rattle.opentelemetry.specs.declared.trace.span_kind.SpanKind.{SpanKind}
 use Rattle.opentelemetry.specs.declared.trace.span_kind.SpanKind.TheVariants as kinds
-use Rattle.otel_shown.specs.Shown.{PlainShownEvent, PlainShownSpan}
+use Rattle.otel_shown.specs.Shown.{PlainShownSpan}
 use Rattle.otel_otlp_read.specs.declared.fault.Fault.{Fault}
 use Rattle.otel_otlp_read.specs.declared.fault.Fault.TheVariants as faults
-use Rattle.otel_otlp_read.specs.declared.left_out.ItemList.TheVariants as lists
 use Rattle.otel_otlp_read.specs.declared.left_out.LeftOut.{LeftOut}
 use Rattle.otel_otlp_read.specs.declared.status.StatusCode.{StatusCode}
 use Rattle.otel_otlp_read.specs.declared.status.StatusCode.TheVariants as status_codes
-use Rattle.otel_otlp_read.specs.Reading.{◌>>=◌, only}
-use Rattle.otel_otlp_read.specs.Kept.{Kept, kept_of}
+use Rattle.otel_otlp_read.specs.Reading.{◌>>=◌}
 use Rattle.otel_otlp_read.specs.Members.{given, object_or, or_default, text_of}
 use Rattle.otel_otlp_read.specs.Numbers.{id_of, is_integer, moment_of, parent_of, spells}
-use Rattle.otel_otlp_read.specs.AnyValue.{shown_pair, shown_value}
+use Rattle.otel_otlp_read.specs.SpanLists.{attributes_of, events_of, links_of}
 
 -- a kind by its number; one that is not known, as one that is not said, is internal
 unfoldable pub numbered_kind : List ℕ → Result SpanKind Fault
@@ -90,26 +87,7 @@ status_in j = do
 abbrev pub status_of : Json → Result PlainStatus Fault
 status_of j = or_default unset status_in (given (codes "status") j)
 
--- the line of an attribute
-unfoldable pub attribute_line : Json → Result (List ℕ) Fault
-attribute_line j = shown_pair (shown_value 64 false) j >>= λ text. Ok (10 ∷ text)
-
--- the attributes of a span: their lines
-unfoldable pub attributes_of : ℕ → Json → Result (Kept ℕ) Fault
-attributes_of span_id = kept_of attribute_line (lists.SpanAttributes span_id) (codes "attributes") faults.AttributesType
-
-unfoldable pub event_in : Json → Result PlainShownEvent Fault
-event_in j = do
-  _ ← object_or faults.EventType j
-  timestamp ← moment_of (codes "timeUnixNano") j
-  name ← text_of (codes "name") faults.NameType j
-  Ok (record { timestamp = timestamp; name = name })
-
-unfoldable pub events_of : ℕ → Json → Result (Kept PlainShownEvent) Fault
-events_of span_id =
-    kept_of (λ item. only (event_in item)) (lists.SpanEvents span_id) (codes "events") faults.EventsType
-
--- a span as it is shown, and which of its attributes and events were left out
+-- a span as it is shown, and which of its attributes, events and links were left out
 pub record PlainReadSpan : Type 0 where
   pub span : PlainShownSpan
   pub left_out : List LeftOut
@@ -128,6 +106,7 @@ span_in service j = do
   status ← status_of j
   attributes ← attributes_of span_id j
   events ← events_of span_id j
+  links ← links_of span_id j
   Ok (record {
     span = record {
       trace_id = trace_id;
@@ -141,6 +120,7 @@ span_in service j = do
       status = status;
       attributes = attributes.kept;
       events = events.kept;
+      links = links.kept;
     };
-    left_out = attributes.left_out ++ events.left_out;
+    left_out = (attributes.left_out ++ events.left_out) ++ links.left_out;
   })

@@ -1,11 +1,12 @@
-//! The attributes of a span, as lines of one text. One that does not read is left out, and named by its place.
+//! Attributes, as lines of one text. One of a span that does not read is left out, and named by its place; those of an
+//! event or a link all read, or it does not.
 
 ghost use Rattle.std.specs.Prelude.{◌≡◌, IfOk, OnOk, map, string_bytes};
 ghost use Rattle.json.specs.Value.{value_view};
 ghost use Rattle.otel_otlp_read.specs.declared.left_out.ItemList.TheVariants.{SpanAttributes};
 ghost use Rattle.otel_otlp_read.specs.Kept.{kept_from};
-ghost use Rattle.otel_otlp_read.specs.Reading.{Gives};
-ghost use Rattle.otel_otlp_read.specs.SpanParts.{attribute_line, attributes_of};
+ghost use Rattle.otel_otlp_read.specs.Reading.{Gives, grown, joined};
+ghost use Rattle.otel_otlp_read.specs.SpanLists.{attribute_line, attributes_of, lines_of};
 
 use crate::fault::{Fault, ReadError};
 use crate::left_out::{ItemList, ItemPlace, LeftOut};
@@ -95,7 +96,7 @@ fn each_attribute(
 }
 
 /// What is read of the attributes of a span, in order.
-#[tactic(auto, unfolding(crate::specs::SpanParts::attributes_of))]
+#[tactic(auto, unfolding(crate::specs::SpanLists::attributes_of))]
 pub(crate) fn attributes(
     alloc: Global,
     span_id: SpanId,
@@ -105,4 +106,27 @@ pub(crate) fn attributes(
 {
     let items = list(span, "attributes", Fault::AttributesType)?;
     Ok(each_attribute(alloc, span_id, items)?)
+}
+
+/// Appends the lines of attributes that all have to read.
+fn push_lines(out: &mut String, items: &[Value]) -> Result<(), ReadError>
+    ensures { Gives (λ _. string_bytes out.new) result
+        (grown (string_bytes out.old) (joined attribute_line (map value_view items.now))) }
+{
+    for attribute in items {
+        out.push_str("\n")?;
+        push_pair(out, attribute, VALUE_DEPTH, false)?;
+    }
+    Ok(())
+}
+
+/// The lines of the attributes of an event or a link.
+#[tactic(auto, unfolding(crate::specs::SpanLists::lines_of))]
+pub(crate) fn lines_of(alloc: Global, object: &Value) -> Result<String, ReadError>
+    ensures { Gives (λ lines. string_bytes lines) result (lines_of (value_view object.now)) }
+{
+    let items = list(object, "attributes", Fault::AttributesType)?;
+    let mut lines = String::new(alloc);
+    push_lines(&mut lines, items)?;
+    Ok(lines)
 }

@@ -5,8 +5,9 @@ ghost use Rattle.json.specs.Value.{value_view};
 ghost use Rattle.otel_otlp_read.specs.declared.left_out.ItemList.TheVariants.{SpanEvents};
 ghost use Rattle.otel_otlp_read.specs.Kept.{kept_from};
 ghost use Rattle.otel_otlp_read.specs.Reading.{Gives, only};
-ghost use Rattle.otel_otlp_read.specs.SpanParts.{event_in, events_of};
+ghost use Rattle.otel_otlp_read.specs.SpanLists.{event_in, events_of};
 
+use crate::attributes::lines_of;
 use crate::fault::{Fault, ReadError};
 use crate::left_out::{ItemList, ItemPlace, LeftOut};
 use crate::member::{list, object, text};
@@ -60,17 +61,19 @@ impl ReadEvents {
     }
 }
 
-/// An event: when it happened, and what it is called.
-#[tactic(auto, unfolding(crate::specs::SpanParts::event_in))]
+/// An event: when it happened, what it is called, and its attributes.
+#[tactic(auto, unfolding(crate::specs::SpanLists::event_in))]
 fn event(alloc: Global, event: &Value) -> Result<ShownEvent, ReadError>
     ensures { Gives (λ event. event) result (event_in (value_view event.now)) }
 {
     object(event, Fault::EventType)?;
     let timestamp = moment(event, "timeUnixNano")?;
     let name = text(event, "name", Fault::NameType)?;
+    let attributes = lines_of(alloc, event)?;
     Ok(ShownEvent {
         timestamp,
         name: String::from_str(alloc, name)?,
+        attributes,
     })
 }
 
@@ -89,7 +92,7 @@ fn each_event(alloc: Global, span_id: SpanId, items: &[Value]) -> Result<ReadEve
 }
 
 /// What is read of the events of a span, in order.
-#[tactic(auto, unfolding(crate::specs::SpanParts::events_of))]
+#[tactic(auto, unfolding(crate::specs::SpanLists::events_of))]
 pub(crate) fn events(alloc: Global, span_id: SpanId, span: &Value) -> Result<ReadEvents, ReadError>
     ensures { Gives (λ read. read) result (events_of span_id (value_view span.now)) }
 {

@@ -10,6 +10,7 @@ pub enum ItemList {
     ResourceAttributes(u64),
     SpanAttributes(SpanId),
     SpanEvents(SpanId),
+    SpanLinks(SpanId),
 }
 
 /// An item of such a list, by its number there, from 1.

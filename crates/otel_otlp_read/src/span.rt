@@ -9,6 +9,7 @@ use crate::event::{ReadEvents, events};
 use crate::fault::{Fault, ReadError};
 use crate::kind::kind;
 use crate::left_out::LeftOut;
+use crate::link::{ReadLinks, links};
 use crate::member::{object, text};
 use crate::number::{moment, parent_span_id, span_id, trace_id};
 use crate::status::status;
@@ -17,7 +18,7 @@ use otel_shown::ShownSpan;
 use std::alloc::Global;
 use std::marker::Model;
 
-/// A span as it is shown, and which of its attributes and events do not read.
+/// A span as it is shown, and which of its attributes, events and links do not read.
 #[derive(Debug, Drop)]
 pub struct ReadSpan {
     pub span: ShownSpan,
@@ -55,6 +56,11 @@ pub(crate) fn span(alloc: Global, service: &str, span: &Value) -> Result<ReadSpa
         left_out: others,
     } = events(alloc, span_id, span)?;
     left_out.extend_from_slice(&others)?;
+    let ReadLinks {
+        links,
+        left_out: others,
+    } = links(alloc, span_id, span)?;
+    left_out.extend_from_slice(&others)?;
     let name = String::from_str(alloc, name)?;
     let service = String::from_str(alloc, service)?;
     let span = ShownSpan {
@@ -69,6 +75,7 @@ pub(crate) fn span(alloc: Global, service: &str, span: &Value) -> Result<ReadSpa
         status,
         attributes: lines,
         events,
+        links,
     };
     Ok(ReadSpan { span, left_out })
 }

@@ -150,6 +150,7 @@ fn push_item(said: &mut String, list: ItemList, number: u64) -> Result<(), Alloc
             write!(said, "attribute {number} of span {span_id}")
         }
         ItemList::SpanEvents(span_id) => write!(said, "event {number} of span {span_id}"),
+        ItemList::SpanLinks(span_id) => write!(said, "link {number} of span {span_id}"),
     }
 }
 

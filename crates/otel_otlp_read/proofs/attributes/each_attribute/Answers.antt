@@ -3,7 +3,7 @@ use Rattle.std.proofs.Common.{arith, map}
 use Rattle.json.specs.Value.{value_view}
 use Rattle.otel_otlp_read.specs.declared.left_out.ItemList.TheVariants.{SpanAttributes}
 use Rattle.otel_otlp_read.specs.Kept.{kept_from}
-use Rattle.otel_otlp_read.specs.SpanParts.{attribute_line}
+use Rattle.otel_otlp_read.specs.SpanLists.{attribute_line}
 use Rattle.otel_otlp_read.proofs.KeptReading.{kept_ends, kept_more}
 use Rattle.otel_otlp_read.proofs.attributes.each_attribute.Goals as goal
 

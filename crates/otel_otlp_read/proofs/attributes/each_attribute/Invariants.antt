@@ -4,7 +4,7 @@ use Rattle.json.specs.Json.{Json}
 use Rattle.json.specs.Value.{value_view}
 use Rattle.otel_otlp_read.specs.declared.left_out.ItemList.TheVariants.{SpanAttributes}
 use Rattle.otel_otlp_read.specs.Kept.{and_kept, kept_from}
-use Rattle.otel_otlp_read.specs.SpanParts.{attribute_line}
+use Rattle.otel_otlp_read.specs.SpanLists.{attribute_line}
 use Rattle.otel_otlp_read.proofs.attributes.each_attribute.Given as goal
 
 abbrev pub invariant-loop-place : goal.invariant-loop-place

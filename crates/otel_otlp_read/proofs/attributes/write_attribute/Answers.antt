@@ -3,7 +3,7 @@ use Rattle.std.proofs.Common.{◌≡◌, ◌∷◌, [], ap, false, string_bytes,
 use Rattle.json.specs.Value.{value_view}
 use Rattle.otel_otlp_read.specs.AnyValue.{shown_pair, shown_value}
 use Rattle.otel_otlp_read.specs.Reading.{grown}
-use Rattle.otel_otlp_read.specs.SpanParts.{attribute_line}
+use Rattle.otel_otlp_read.specs.SpanLists.{attribute_line}
 use Rattle.otel_otlp_read.proofs.Turns.{gives_by}
 use Rattle.otel_otlp_read.proofs.attributes.write_attribute.Goals as goal
 

@@ -5,7 +5,7 @@ use Rattle.json.specs.Value.{value_view}
 use Rattle.otel_otlp_read.specs.declared.left_out.ItemList.TheVariants.{SpanEvents}
 use Rattle.otel_otlp_read.specs.Kept.{kept_from}
 use Rattle.otel_otlp_read.specs.Reading.{only}
-use Rattle.otel_otlp_read.specs.SpanParts.{event_in}
+use Rattle.otel_otlp_read.specs.SpanLists.{event_in}
 use Rattle.otel_otlp_read.proofs.KeptReading.{kept_ends, kept_more}
 use Rattle.otel_otlp_read.proofs.event.each_event.Goals as goal
 
