@@ -7,7 +7,7 @@ ghost use Rattle.otel_shown.specs.Shown.{attribute_line, attribute_lines, shown_
 use crate::{ShownEvent, ShownLink};
 use opentelemetry::trace::{Event, Link, SpanKind, Status};
 use opentelemetry::{KeyValue, Moment, SpanId, TraceId, Value};
-use otel_export::trace::{SpanData, SpanEvents};
+use otel_export::trace::{SpanData, SpanEvents, SpanLinks};
 use std::alloc::{AllocError, Global};
 use std::fmt::Write;
 use std::marker::Model;
@@ -66,10 +66,10 @@ impl ShownSpan {
         ensures { IfOk result (λ shown. shown ≡ shown_span (string_bytes service) span) }
     {
         let attributes = attribute_lines(alloc, span.attributes.as_slice())?;
-        let links = shown_links(alloc, span.links.links.as_slice())?;
         let trace_id = span.span_context.trace_id();
         let span_id = span.span_context.span_id();
         let events = shown_events(alloc, span.events)?;
+        let links = shown_links(alloc, span.links)?;
         Ok(ShownSpan {
             trace_id,
             span_id,
@@ -135,22 +135,25 @@ fn shown_events(alloc: Global, kept: SpanEvents) -> Result<Vec<ShownEvent>, Allo
 }
 
 /// A link, whose attributes become one text.
-fn shown_link(alloc: Global, link: &Link) -> Result<ShownLink, AllocError>
-    ensures { IfOk result (λ shown. shown ≡ shown_link link.now) }
+fn shown_link(alloc: Global, link: Link) -> Result<ShownLink, AllocError>
+    ensures { IfOk result (λ shown. shown ≡ shown_link link) }
 {
+    let attributes = attribute_lines(alloc, link.attributes.as_slice())?;
+    let trace_id = link.span_context.trace_id();
+    let span_id = link.span_context.span_id();
     Ok(ShownLink {
-        trace_id: link.span_context.trace_id(),
-        span_id: link.span_context.span_id(),
-        attributes: attribute_lines(alloc, link.attributes.as_slice())?,
+        trace_id,
+        span_id,
+        attributes,
     })
 }
 
 /// Links, in order.
-fn shown_links(alloc: Global, kept: &[Link]) -> Result<Vec<ShownLink>, AllocError>
-    ensures { IfOk result (λ links. links.items ≡ map shown_link kept.now) }
+fn shown_links(alloc: Global, kept: SpanLinks) -> Result<Vec<ShownLink>, AllocError>
+    ensures { IfOk result (λ links. links.items ≡ map shown_link kept.links) }
 {
-    let mut links = Vec::with_capacity(alloc, kept.len())?;
-    for link in kept {
+    let mut links = Vec::with_capacity(alloc, kept.links.len())?;
+    for link in kept.links {
         links.push(shown_link(alloc, link)?)?;
     }
     Ok(links)
