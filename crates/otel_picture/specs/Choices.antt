@@ -13,7 +13,7 @@ use Rattle.otel_picture.specs.declared.choice.Choice.{Choice}
 
 -- all traces, in their order
 abbrev pub every : Choice
-every = record { trace_id = None; errors_only = false; slowest = None }
+every = record { trace_id = None; errors_only = false; slowest = None; attributes = false }
 
 -- whether a span of a trace failed
 abbrev pub has_error : List PlainShownSpan → PlainTrace → Bool

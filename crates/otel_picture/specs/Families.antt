@@ -35,6 +35,7 @@ no_span = record {
   status = unset;
   attributes = [];
   events = [];
+  links = [];
 }
 
 abbrev pub span_at : List PlainShownSpan → ℕ → PlainShownSpan

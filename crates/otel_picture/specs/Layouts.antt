@@ -15,8 +15,20 @@ layout_of given =
       bar = rest - rest * 2 / 5 - 1;
       has_numbers = has_numbers;
       has_self_time = has_self_time;
+      has_attributes = false;
     }
+
+-- the same, with attributes under the rows or without
+abbrev pub layout_with : ℕ → Bool → Layout
+layout_with given attributes = record (layout_of given) { has_attributes = attributes }
 
 -- the rooms of the SVG form: names have 40 columns of text, bars 460 units
 abbrev pub svg_layout : Layout
-svg_layout = record { columns = 120; name = 40; bar = 460; has_numbers = true; has_self_time = false }
+svg_layout = record {
+  columns = 120;
+  name = 40;
+  bar = 460;
+  has_numbers = true;
+  has_self_time = false;
+  has_attributes = false;
+}

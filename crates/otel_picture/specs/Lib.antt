@@ -1,6 +1,7 @@
 pub mod Bars
 pub mod Choices
 pub mod Dates
+pub mod Details
 pub mod Drawn
 pub mod Durations
 pub mod Families
@@ -14,6 +15,7 @@ pub mod Rows
 pub mod RowTexts
 pub mod Sheets
 pub mod Summaries
+pub mod SvgNotes
 pub mod SvgParts
 pub mod SvgTexts
 pub mod Texts

@@ -9,13 +9,15 @@ use Rattle.opentelemetry.specs.declared.trace.span_kind.SpanKind.{SpanKind}
 use Rattle.opentelemetry.specs.declared.trace.span_kind.SpanKind.TheVariants as kinds
 use Rattle.otel_shown.specs.Shown.{PlainShownEvent, PlainShownSpan}
 use Rattle.otel_picture.specs.Bars.{length_of, self_time}
+use Rattle.otel_picture.specs.Details.{details_text}
 use Rattle.otel_picture.specs.Durations.{duration_text}
 use Rattle.otel_picture.specs.Drawn.{PlainTraces}
-use Rattle.otel_picture.specs.Layouts.{layout_of}
+use Rattle.otel_picture.specs.Layouts.{layout_with}
 use Rattle.otel_picture.specs.PlainSheets.{PlainSheet, errors_in, first_service, is_error, is_orphan, row_mark}
 use Rattle.otel_picture.specs.PlainSheets.{row_span, sheet_column, sheet_of}
 use Rattle.otel_picture.specs.Texts.{at_right, cut_text, in_room, shown_text, times}
 use Rattle.otel_picture.specs.Traces.{PlainTrace}
+use Rattle.otel_picture.specs.declared.details.Under.{Under}
 use Rattle.otel_picture.specs.declared.layout.Layout.{Layout}
 use Rattle.otel_picture.specs.declared.rows.Row.{Row}
 
@@ -27,10 +29,15 @@ kind_text kinds.Producer = codes " producer"
 kind_text kinds.Consumer = codes " consumer"
 kind_text kinds.Internal = []
 
+-- the signs in front of a name: its parent is not in the picture, it has links
+abbrev pub signs_text : (orphan : Bool) → PlainShownSpan → List ℕ
+signs_text orphan span =
+    (if orphan then codes "~" else []) ++ (if length span.links == 0 then [] else codes ">")
+
 -- a span's name, with its service where those differ, and its kind
 abbrev pub label_text : (orphan mixed : Bool) → PlainShownSpan → List ℕ
 label_text orphan mixed span =
-    (if orphan then codes "~" else []) ++ (shown_text span.name
+    signs_text orphan span ++ (shown_text span.name
     ++ ((if mixed then codes " @" ++ shown_text span.service else []) ++ kind_text span.kind))
 
 -- the sign in front of the bar of a span that failed
@@ -101,11 +108,23 @@ module _ (sheet : PlainSheet) where
       codes "\n" ++ (times indent 32 ++ (codes "! "
       ++ (cut_text (sheet.layout.columns - indent - 2) (shown_text description) ++ codes "\n")))
 
-  -- the row of a span, by how long none of its children ran
+  -- where the lines under a row stand
+  abbrev pub under_of : Row → Under
+  under_of row = record {
+    columns = sheet.layout.columns;
+    indent = indent_of row;
+    has_attributes = sheet.layout.has_attributes;
+  }
+
+  -- those lines
+  abbrev pub under_text : Row → List ℕ
+  under_text row = details_text (under_of row) (row_span sheet row)
+
+  -- the row of a span, by how long none of its children ran, and the lines under it
   abbrev pub row_text : Row → ℕ → List ℕ
   row_text row own =
       name_text row ++ (bar_text row ++ (numbers_text row
-      ++ (self_text own ++ note_text (indent_of row) (row_span sheet row).status)))
+      ++ (self_text own ++ (note_text (indent_of row) (row_span sheet row).status ++ under_text row))))
 
   abbrev pub rows_text : List Row → List ℕ
   rows_text [] = []
@@ -175,6 +194,6 @@ traces_text layout spans is_first [] = []
 traces_text layout spans is_first (trace ∷ traces) =
     apart_text is_first (sheet_of layout spans trace) ++ traces_text layout spans false traces
 
--- traces as text of so many columns
-abbrev pub picture_text : ℕ → PlainTraces → List ℕ
-picture_text columns drawn = traces_text (layout_of columns) drawn.spans true drawn.traces
+-- traces as text of so many columns, with the attributes of their spans or without
+abbrev pub picture_text : (columns : ℕ) (attributes : Bool) → PlainTraces → List ℕ
+picture_text columns attributes drawn = traces_text (layout_with columns attributes) drawn.spans true drawn.traces

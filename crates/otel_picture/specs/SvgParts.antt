@@ -30,6 +30,11 @@ title_svg text = codes "<title>" ++ (escaped_text (chars text) ++ codes "</title
 unfoldable pub mark_svg : (x y : ℕ) → List ℕ
 mark_svg x y = codes "<path class=\"event\" d=\"M" ++ (decimal x ++ (codes " " ++ (decimal y ++ codes "v14\">")))
 
+-- the sign in front of the bar of a span that failed
+unfoldable pub sign_svg : (x y : ℕ) → List ℕ
+sign_svg x y =
+    codes "<text class=\"sign\" x=\"" ++ (decimal x ++ (codes "\" y=\"" ++ (decimal y ++ codes "\">!</text>")))
+
 -- the rest of a bar, after its class
 unfoldable pub place_svg : (x y width : ℕ) → List ℕ
 place_svg x y width =
@@ -63,7 +68,9 @@ unfoldable pub style_text : List ℕ
 style_text =
     codes "<style>text{font:12px monospace;fill:#1b1b1b}.page{fill:#ffffff}.tick{stroke:#c9c9c9}.event{stroke:#1b1b1b;"
     ++ codes "stroke-width:2}.s0{fill:#1f5fa8}.s1{fill:#2f7d32}.s2{fill:#8a4fb0}.s3{fill:#b06a00}.s4{fill:#00798c}"
-    ++ codes ".s5{fill:#6b6b00}.s6{fill:#ad1f6b}.s7{fill:#4a5a78}.error{stroke:#d3261e;stroke-width:2}"
+    ++ codes ".s5{fill:#6b6b00}.s6{fill:#ad1f6b}.s7{fill:#4a5a78}"
+    ++ codes ".error{fill-opacity:.25;stroke:#1b1b1b;stroke-width:2}.sign{fill:#c0160d;font-weight:bold}"
     ++ codes "@media (prefers-color-scheme:dark){text{fill:#eeeeee}.page{fill:#121212}.tick{stroke:#444444}"
     ++ codes ".event{stroke:#eeeeee}.s0{fill:#7fb4f0}.s1{fill:#7fcf85}.s2{fill:#c9a0e8}.s3{fill:#f0b860}"
-    ++ codes ".s4{fill:#6fd0de}.s5{fill:#cfcf70}.s6{fill:#f090c4}.s7{fill:#a9b9d8}.error{stroke:#ff8a80}}</style>\n"
+    ++ codes ".s4{fill:#6fd0de}.s5{fill:#cfcf70}.s6{fill:#f090c4}.s7{fill:#a9b9d8}"
+    ++ codes ".error{stroke:#eeeeee}.sign{fill:#ff8a80}}</style>\n"

@@ -34,6 +34,8 @@ pub struct Choice {
     pub errors_only: bool,
     /// So many at most, the longest first, and of two of one length that which came first.
     pub slowest: Option<usize>,
+    /// Whether attributes stand under the rows of the text form; it chooses no trace.
+    pub attributes: bool,
 }
 
 /// All traces, in their order.
@@ -41,6 +43,7 @@ pub const EVERY: Choice = Choice {
     trace_id: None,
     errors_only: false,
     slowest: None,
+    attributes: false,
 };
 
 /// Whether a span of a trace failed.

@@ -1,7 +1,7 @@
 //! The rooms of the text form: how many columns a row has for the name of its span, for its bar and for numbers.
 
 ghost use Rattle.std.specs.Prelude.{◌≡◌, ◌<◌, ◌≤◌};
-ghost use Rattle.otel_picture.specs.Layouts.{layout_of, svg_layout};
+ghost use Rattle.otel_picture.specs.Layouts.{layout_of, layout_with, svg_layout};
 
 /// How many columns a picture has where nobody says.
 pub const COLUMNS: u32 = 72;
@@ -17,6 +17,8 @@ pub struct Layout {
     pub has_numbers: bool,
     /// Whether the time of a span without its children stands there too.
     pub has_self_time: bool,
+    /// Whether the attributes of a span and all of its events stand under its row.
+    pub has_attributes: bool,
 }
 
 impl Layout {
@@ -30,6 +32,7 @@ impl Layout {
             bar: 460,
             has_numbers: true,
             has_self_time: false,
+            has_attributes: false,
         }
     }
 
@@ -52,6 +55,19 @@ impl Layout {
             bar: rest - name - 1,
             has_numbers,
             has_self_time,
+            has_attributes: false,
+        }
+    }
+
+    /// The same, with attributes under the rows or without.
+    pub(crate) fn with_attributes(columns: u32, has_attributes: bool) -> Layout
+        ensures is { result ≡ layout_with columns has_attributes }
+        ensures wide { 9 < result.bar }
+    {
+        let layout = Layout::of(columns);
+        Layout {
+            has_attributes,
+            ..layout
         }
     }
 }

@@ -9,13 +9,15 @@
 //! of the others the name takes two fifths and the bar the rest. Two blanks a level stand in front of a name. `~` stands
 //! before one whose parent is not in the picture, `@` and the service after it where a trace has several, and the kind
 //! where it is not internal. A name is cut by the columns that it takes, with an ellipsis. `·` in a bar is an event, `!`
-//! before it says that the span failed, and what went wrong stands on a line of its own. Of a circle of parents the first
-//! span stands as a root.
+//! before it says that the span failed, and what went wrong stands on a line of its own, after `!`, as an exception does,
+//! after `*`, and a link, after `>`, which stands before the name too. Of a circle of parents the first span stands as a
+//! root.
 #![tactic(auto)]
 
 pub mod bar;
 pub mod choice;
 mod dates;
+mod details;
 mod durations;
 pub mod families;
 pub mod laws;
@@ -26,6 +28,7 @@ pub mod rows;
 mod sheet;
 pub mod summary;
 pub mod svg;
+mod svg_notes;
 mod svg_parts;
 mod svg_row;
 mod texts;

@@ -1,4 +1,4 @@
-//! The rows of the text form, a span each: name, bar, numbers, and what went wrong on a line of its own.
+//! The rows of the text form, a span each: name, bar, numbers, what went wrong on a line of its own, and lines under it.
 
 ghost use Rattle.std.specs.Prelude.{◌≡◌, ◌<◌, ◌==◌, IfOk, OnOk, encode_utf8, length, max, string_bytes};
 ghost use Rattle.std.specs.List.{list_any};
@@ -21,11 +21,15 @@ ghost use Rattle.otel_picture.specs.RowTexts.{
   rows_text,
   self_text,
   sign_text,
+  signs_text,
+  under_of,
+  under_text,
 };
 ghost use Rattle.otel_picture.specs.PlainSheets.{row_span, sheet_column};
 ghost use Rattle.otel_picture.specs.Sheets.{plain_sheet};
 
 use crate::bar::{Bar, self_times};
+use crate::details::Under;
 use crate::durations::push_duration;
 use crate::rows::Row;
 use crate::sheet::{Sheet, is_error};
@@ -47,6 +51,19 @@ pub(crate) fn kind_text(kind: SpanKind) -> &'static str
     }
 }
 
+/// Appends the signs in front of a name: its parent is not in the picture, it has links.
+fn push_signs(out: &mut String, span: &ShownSpan, is_orphan: bool) -> Result<(), AllocError>
+    ensures { OnOk result (TextGrows out.old (signs_text is_orphan span.now) out.new) }
+{
+    if is_orphan {
+        out.push('~')?;
+    }
+    if span.links.is_empty() {
+        return Ok(());
+    }
+    out.push('>')
+}
+
 /// A span's name, with its service where those differ, and its kind.
 pub(crate) fn label_of(
     alloc: Global,
@@ -57,9 +74,7 @@ pub(crate) fn label_of(
     ensures { IfOk result (λ label. string_bytes label ≡ label_text is_orphan is_mixed span.now) }
 {
     let mut label = String::new(alloc);
-    if is_orphan {
-        label.push('~')?;
-    }
+    push_signs(&mut label, span, is_orphan)?;
     push_shown(&mut label, span.name.as_str())?;
     if is_mixed {
         label.push_str(" @")?;
@@ -233,7 +248,27 @@ impl Sheet<'_> {
         text.push('\n')
     }
 
-    /// The row of a span, by the time without the children.
+    /// Where the lines under a row stand.
+    fn under_of(&self, row: Row) -> Under
+        ensures { result ≡ under_of (plain_sheet self.now) row }
+    {
+        Under {
+            columns: self.layout.columns,
+            indent: self.indent_of(row),
+            has_attributes: self.layout.has_attributes,
+        }
+    }
+
+    /// Those lines.
+    fn push_under(&self, alloc: Global, text: &mut String, row: Row) -> Result<(), AllocError>
+        requires { row.span < length self.now.trace.now.family.marks.items }
+        ensures { OnOk result (TextGrows text.old (under_text (plain_sheet self.now) row) text.new) }
+    {
+        let span = self.span_of(row);
+        self.under_of(row).push_details(alloc, text, span)
+    }
+
+    /// The row of a span, by the time without the children, and the lines under it.
     fn push_row(
         &self,
         alloc: Global,
@@ -250,6 +285,7 @@ impl Sheet<'_> {
         self.push_self_time(alloc, text, own)?;
         let span = self.span_of(row);
         self.push_note(alloc, text, self.indent_of(row), &span.status)?;
+        self.push_under(alloc, text, row)?;
         Ok(())
     }
 

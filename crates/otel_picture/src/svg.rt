@@ -1,6 +1,7 @@
 //! Pictures of traces as one SVG file of 960 units, without scripts, fonts or links. Its lines are 20 units high: of each
 //! trace a head, an axis with four ticks, a line a span, and an empty one. Names stand left of unit 310, bars from there
-//! on over 460 units, offset and length after them. A service has one of eight colours; what failed has a red edge.
+//! on over 460 units, offset and length after them. A service has one of eight colours; the bar of a span that
+//! failed is hollow, with an edge as dark as text, and `!` stands in front of it. Under a line stand exceptions and links.
 
 ghost use Rattle.std.specs.Prelude.{◌≡◌, ◌<◌, ◌≤◌, All, IfOk, OnOk, length, map, string_bytes};
 ghost use Rattle.opentelemetry.specs.Text.{TextGrows};
@@ -37,10 +38,12 @@ use std::alloc::{AllocError, Global};
 const STYLE: &str = concat!(
     "<style>text{font:12px monospace;fill:#1b1b1b}.page{fill:#ffffff}.tick{stroke:#c9c9c9}.event{stroke:#1b1b1b;",
     "stroke-width:2}.s0{fill:#1f5fa8}.s1{fill:#2f7d32}.s2{fill:#8a4fb0}.s3{fill:#b06a00}.s4{fill:#00798c}",
-    ".s5{fill:#6b6b00}.s6{fill:#ad1f6b}.s7{fill:#4a5a78}.error{stroke:#d3261e;stroke-width:2}",
+    ".s5{fill:#6b6b00}.s6{fill:#ad1f6b}.s7{fill:#4a5a78}",
+    ".error{fill-opacity:.25;stroke:#1b1b1b;stroke-width:2}.sign{fill:#c0160d;font-weight:bold}",
     "@media (prefers-color-scheme:dark){text{fill:#eeeeee}.page{fill:#121212}.tick{stroke:#444444}",
     ".event{stroke:#eeeeee}.s0{fill:#7fb4f0}.s1{fill:#7fcf85}.s2{fill:#c9a0e8}.s3{fill:#f0b860}.s4{fill:#6fd0de}",
-    ".s5{fill:#cfcf70}.s6{fill:#f090c4}.s7{fill:#a9b9d8}.error{stroke:#ff8a80}}</style>\n"
+    ".s5{fill:#cfcf70}.s6{fill:#f090c4}.s7{fill:#a9b9d8}.error{stroke:#eeeeee}",
+    ".sign{fill:#ff8a80}}</style>\n"
 );
 
 impl Sheet<'_> {
@@ -117,7 +120,7 @@ impl Sheet<'_> {
     fn push_svg_axis(&self, alloc: Global, out: &mut String, line: u64) -> Result<(), AllocError>
         ensures { OnOk result (TextGrows out.old (svg_axis (plain_sheet self.now) line) out.new) }
     {
-        let end = line_after(line_after(line, 2), self.trace.rows.len() as u64);
+        let end = self.line_after_rows(line_after(line, 2));
         self.push_svg_ticks(alloc, out, line_after(line, 1), end)
     }
 
@@ -138,22 +141,25 @@ impl Sheet<'_> {
         self.push_svg_lines(alloc, out, line)?;
         Ok(())
     }
-}
 
-/// The line after that of a trace: it takes a head, an axis, a line a span, and an empty one.
-fn line_after_trace(line: u64, trace: &Trace) -> u64
-    ensures { result ≡ line_after_trace line (plain_trace trace.now) }
-{
-    line_after(line_after(line, 3), trace.rows.len() as u64)
+    /// The line after a trace: it takes a head, an axis, its rows and what stands under them, and an empty one.
+    fn line_after_trace(&self, line: u64) -> u64
+        ensures { result ≡ line_after_trace (plain_sheet self.now) line }
+    {
+        line_after(self.line_after_rows(line_after(line, 2)), 1)
+    }
 }
 
 /// The line after the last one.
-fn last_line(traces: &[Trace]) -> u64
-    ensures { result ≡ last_line 0 (map plain_trace traces.now) }
+fn last_line(spans: &[ShownSpan], traces: &[Trace]) -> u64
+    requires { AllHaveSpans spans.now traces.now }
+    ensures { result ≡ last_line spans.now 0 (map plain_trace traces.now) }
 {
     let mut line = 0;
-    for trace in traces {
-        line = line_after_trace(line, trace);
+    let mut left = traces;
+    while let Some((trace, rest)) = left.split_first() {
+        line = Sheet::of(spans, trace, Layout::svg()).line_after_trace(line);
+        left = rest;
     }
     line
 }
@@ -181,8 +187,9 @@ fn push_svg_traces(
     let mut line = 0;
     let mut left = traces;
     while let Some((trace, rest)) = left.split_first() {
-        Sheet::of(spans, trace, Layout::svg()).push_svg_trace(alloc, out, line)?;
-        line = line_after_trace(line, trace);
+        let sheet = Sheet::of(spans, trace, Layout::svg());
+        sheet.push_svg_trace(alloc, out, line)?;
+        line = sheet.line_after_trace(line);
         left = rest;
     }
     Ok(())
@@ -194,7 +201,10 @@ impl Traces<'_> {
         ensures { IfOk result (λ text. text.items ≡ svg_text (plain_traces self.now)) }
     {
         let mut text = String::new(alloc);
-        push_begin(&mut text, down(last_line(&self.traces), 10))?;
+        push_begin(
+            &mut text,
+            down(last_line(self.spans, &self.traces), 10),
+        )?;
         push_svg_traces(alloc, &mut text, self.spans, &self.traces)?;
         text.push_str("</svg>\n")?;
         Ok(text.into_bytes())

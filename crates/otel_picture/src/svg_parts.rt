@@ -12,6 +12,7 @@ ghost use Rattle.otel_picture.specs.SvgParts.{
   page_svg,
   place_svg,
   root_svg,
+  sign_svg,
   title_svg,
 };
 
@@ -70,6 +71,14 @@ pub(crate) fn push_mark(out: &mut String, x: u64, y: u64) -> Result<(), AllocErr
     ensures { OnOk result (TextGrows out.old (mark_svg x y) out.new) }
 {
     write!(out, "<path class=\"event\" d=\"M{x} {y}v14\">")
+}
+
+/// Appends the sign in front of the bar of a span that failed.
+#[tactic(auto, unfolding(crate::specs::SvgParts::sign_svg))]
+pub(crate) fn push_sign(out: &mut String, x: u64, y: u64) -> Result<(), AllocError>
+    ensures { OnOk result (TextGrows out.old (sign_svg x y) out.new) }
+{
+    write!(out, "<text class=\"sign\" x=\"{x}\" y=\"{y}\">!</text>")
 }
 
 /// Appends the rest of a bar, after its class.

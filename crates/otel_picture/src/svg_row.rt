@@ -1,19 +1,22 @@
 //! The lines of the SVG form, a span each: its name, its bar with marks for events, its numbers, and a title.
 
-ghost use Rattle.std.specs.Prelude.{◌≡◌, ◌<◌, ◌+◌, ◌-◌, ◌++◌, IfOk, OnOk, codes, length, string_bytes};
+ghost use Rattle.std.specs.Prelude.{◌≡◌, ◌<◌, ◌+◌, ◌-◌, IfOk, OnOk, length, string_bytes};
 ghost use Rattle.std.specs.List.{flat_map};
 ghost use Rattle.opentelemetry.specs.PlainValues.{plain_status};
 ghost use Rattle.opentelemetry.specs.Text.{TextGrows};
 ghost use Rattle.otel_picture.specs.PlainSheets.{sheet_column};
 ghost use Rattle.otel_picture.specs.Sheets.{plain_sheet};
-ghost use Rattle.otel_picture.specs.SvgParts.{down, when_text, place_svg};
+ghost use Rattle.otel_picture.specs.SvgParts.{down, place_svg};
 ghost use Rattle.otel_picture.specs.SvgTexts.{
   class_text,
   colour_of,
   event_svg,
+  event_title,
   fault_text,
   level_text,
+  link_title,
   note_of,
+  sign_at,
   svg_bar,
   svg_name,
   svg_numbers,
@@ -21,21 +24,23 @@ ghost use Rattle.otel_picture.specs.SvgTexts.{
   svg_row,
   svg_rows,
   svg_shapes,
+  svg_sign,
   title_of,
   whose_text,
 };
 
 use crate::bar::Bar;
+use crate::details::link_of;
 use crate::durations::push_duration;
 use crate::row_text::{kind_text, label_of};
 use crate::rows::Row;
 use crate::sheet::{Sheet, is_error};
 use crate::svg_parts::{
-    down, line_after, push_label, push_mark, push_place, push_title, push_when,
+    down, push_label, push_mark, push_place, push_sign, push_title, push_when,
 };
 use crate::texts::{push_cut, push_shown};
 use opentelemetry::trace::Status;
-use otel_shown::{ShownEvent, ShownSpan};
+use otel_shown::{ShownEvent, ShownLink, ShownSpan};
 use std::alloc::{AllocError, Global};
 use std::fmt::Write;
 
@@ -102,6 +107,40 @@ fn push_whose(out: &mut String, span: &ShownSpan) -> Result<(), AllocError>
     out.push_str(span.service.as_str())
 }
 
+/// Appends a link, as lines of a title.
+fn push_link_title(alloc: Global, out: &mut String, link: &ShownLink) -> Result<(), AllocError>
+    ensures { OnOk result (TextGrows out.old (link_title link.now) out.new) }
+{
+    let said = link_of(alloc, link)?;
+    out.push_str("\n> ")?;
+    out.push_str(said.as_str())?;
+    out.push_str(link.attributes.as_str())
+}
+
+/// Appends links, as lines of a title.
+fn push_link_titles(
+    alloc: Global,
+    out: &mut String,
+    links: &[ShownLink],
+) -> Result<(), AllocError>
+    ensures { OnOk result (TextGrows out.old (flat_map link_title links.now) out.new) }
+{
+    for link in links {
+        push_link_title(alloc, out, link)?;
+    }
+    Ok(())
+}
+
+/// Appends the sign in front of the bar of a span that failed, at a place.
+fn push_sign_at(out: &mut String, x: u64, y: u64, status: &Status) -> Result<(), AllocError>
+    ensures { OnOk result (TextGrows out.old (sign_at x y (plain_status status.now)) out.new) }
+{
+    if is_error(status) {
+        return push_sign(out, x, y);
+    }
+    Ok(())
+}
+
 /// The title of a bar.
 fn title_of(alloc: Global, span: &ShownSpan) -> Result<String, AllocError>
     ensures { IfOk result (λ title. string_bytes title ≡ title_of span.now) }
@@ -112,6 +151,7 @@ fn title_of(alloc: Global, span: &ShownSpan) -> Result<String, AllocError>
     push_when(&mut title, "end", span.end_time.0)?;
     push_fault(&mut title, &span.status)?;
     title.push_str(span.attributes.as_str())?;
+    push_link_titles(alloc, &mut title, &span.links)?;
     Ok(title)
 }
 
@@ -137,11 +177,11 @@ fn push_bar_place(out: &mut String, line: u64, bar: Bar) -> Result<(), AllocErro
 
 /// The title of an event.
 fn event_title_of(alloc: Global, event: &ShownEvent) -> Result<String, AllocError>
-    ensures { IfOk result (λ title.
-        string_bytes title ≡ event.now.name ++ when_text (codes "at") event.now.timestamp) }
+    ensures { IfOk result (λ title. string_bytes title ≡ event_title event.now) }
 {
     let mut title = String::from_str(alloc, event.name.as_str())?;
     push_when(&mut title, "at", event.timestamp.0)?;
+    title.push_str(event.attributes.as_str())?;
     Ok(title)
 }
 
@@ -206,6 +246,14 @@ impl Sheet<'_> {
         push_label(out, 10 + 14 * indent as u64, down(line, 15), cut.as_str())
     }
 
+    /// The sign in front of a bar, if the span failed.
+    fn push_svg_sign(&self, out: &mut String, line: u64, span: &ShownSpan) -> Result<(), AllocError>
+        ensures { OnOk result (TextGrows out.old (svg_sign (plain_sheet self.now) line span.now) out.new) }
+    {
+        let x = self.svg_place(span.start_time.0) - 12;
+        push_sign_at(out, x, down(line, 15), &span.status)
+    }
+
     /// The bar of a span, from the column of its start to that of its end.
     fn push_svg_bar(&self, out: &mut String, line: u64, span: &ShownSpan) -> Result<(), AllocError>
         ensures { OnOk result (TextGrows out.old (svg_bar (plain_sheet self.now) line span.now) out.new) }
@@ -262,13 +310,14 @@ impl Sheet<'_> {
     {
         let span = self.span_of(row);
         self.push_svg_name(alloc, out, line, row)?;
+        self.push_svg_sign(out, line, span)?;
         self.push_svg_bar(out, line, span)?;
         self.push_events(alloc, out, line, span)?;
         self.push_svg_numbers(alloc, out, line, row)?;
         Ok(())
     }
 
-    /// The line of a span.
+    /// The line of a span, and those under it.
     fn push_svg_row(
         &self,
         alloc: Global,
@@ -283,6 +332,7 @@ impl Sheet<'_> {
         out.push_str("<g>")?;
         push_title(out, title.as_str())?;
         self.push_svg_shapes(alloc, out, line, row)?;
+        self.push_svg_notes(alloc, out, line, row)?;
         out.push_str("</g>\n")?;
         Ok(())
     }
@@ -302,7 +352,7 @@ impl Sheet<'_> {
         while let Some((row, rest)) = left.split_first() {
             self.push_svg_row(alloc, out, line, *row)?;
             left = rest;
-            line = line_after(line, 1);
+            line = self.line_after_row(line, *row);
         }
         Ok(())
     }

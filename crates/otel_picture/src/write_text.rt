@@ -3,7 +3,7 @@
 ghost use Rattle.std.specs.Prelude.{◌≡◌, true, ◌<◌, ◌≤◌, ◌*◌, ◌/◌, All, IfOk, OnOk, length, map, string_bytes};
 ghost use Rattle.opentelemetry.specs.Text.{TextGrows};
 ghost use Rattle.otel_picture.specs.Drawn.{plain_traces};
-ghost use Rattle.otel_picture.specs.Layouts.{layout_of};
+ghost use Rattle.otel_picture.specs.Layouts.{layout_with};
 ghost use Rattle.otel_picture.specs.RowTexts.{
   apart_text,
   axis_text,
@@ -209,9 +209,15 @@ fn push_traces(
 }
 
 impl Traces<'_> {
-    /// The pictures of traces, for so many columns, of which 20 at least and 400 at most count.
-    pub fn to_text(&self, alloc: Global, columns: u32) -> Result<Vec<u8>, AllocError>
-        ensures { IfOk result (λ text. text.items ≡ picture_text columns (plain_traces self.now)) }
+    /// The pictures of traces, for so many columns, of which 20 at least and 400 at most count; with the attributes of
+    /// spans, events and links, and all events, under the rows or without.
+    pub fn to_text(
+        &self,
+        alloc: Global,
+        columns: u32,
+        attributes: bool,
+    ) -> Result<Vec<u8>, AllocError>
+        ensures { IfOk result (λ text. text.items ≡ picture_text columns attributes (plain_traces self.now)) }
     {
         let mut text = String::new(alloc);
         push_traces(
@@ -219,7 +225,7 @@ impl Traces<'_> {
             &mut text,
             self.spans,
             &self.traces,
-            Layout::of(columns),
+            Layout::with_attributes(columns, attributes),
         )?;
         Ok(text.into_bytes())
     }

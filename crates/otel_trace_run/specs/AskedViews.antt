@@ -26,8 +26,9 @@ abbrev mutual
   pub chosen : List (List ℕ) → Choice → Option Choice
   chosen [] old = Some old
   chosen (word ∷ after) old =
-      if bytes_eq word (codes "--errors") then chosen after (record old { errors_only = true })
-      else chosen_by word after old
+      if bytes_eq word (codes "--errors") then chosen after (record old { errors_only = true }) else
+      (if bytes_eq word (codes "--attributes") then chosen after (record old { attributes = true })
+      else chosen_by word after old)
 
   pub chosen_by : List ℕ → List (List ℕ) → Choice → Option Choice
   chosen_by word [] old = None

@@ -1,5 +1,5 @@
 -- The mode `view`: traces of any producer are drawn, out of OTLP JSON.
-use Rattle.std.specs.Prelude.{◌≡◌, ◌≢◌, ◌⊎◌, ◌≤◌, ◌==◌, ℕ, List, [], ◌∷◌, ◌++◌, Option, Some, None, codes, decimal}
+use Rattle.std.specs.Prelude.{◌≡◌, ◌≢◌, ◌⊎◌, ◌≤◌, ◌==◌, ℕ, Bool, List, [], ◌∷◌, ◌++◌, Option, Some, None, codes, decimal}
 use Rattle.std.specs.Prelude.{if◌then◌else◌}
 use Rattle.std.specs.Io.KnownBytes.{Appends, IsAtEnd}
 use Rattle.std.specs.List.{flat_map}
@@ -13,6 +13,7 @@ use Rattle.otel_otlp_read.specs.declared.left_out.ItemList.TheVariants as lists
 use Rattle.otel_otlp_read.specs.declared.left_out.ItemPlace.{ItemPlace}
 use Rattle.otel_picture.specs.Choices.{IsChosen}
 use Rattle.otel_picture.specs.Drawn.{AreTracesOf, PlainTraces}
+use Rattle.otel_picture.specs.HtmlTexts.{html_text}
 use Rattle.otel_picture.specs.Summaries.{summary_text}
 use Rattle.otel_picture.specs.Traces.{PlainTrace}
 use Rattle.otel_shown.specs.Shown.{PlainShownSpan}
@@ -24,10 +25,11 @@ use Rattle.otel_trace_run.specs.declared.asked_view.ViewForm.TheVariants as view
 use Rattle.otel_trace_run.specs.declared.view.Found.{Found}
 use Rattle.otel_trace_run.specs.declared.view.Found.TheVariants as founds
 
--- what is written of traces
-abbrev pub written_of : ViewForm → PlainTraces → List ℕ
-written_of (views.Picture form) traces = picture_of form traces
-written_of views.Summary traces = summary_text traces
+-- what is written of traces, with attributes or without
+abbrev pub written_of : ViewForm → (attributes : Bool) → PlainTraces → List ℕ
+written_of (views.Picture form) attributes traces = picture_of form attributes traces
+written_of views.Summary attributes traces = summary_text traces
+written_of views.Html attributes traces = html_text traces
 
 -- whether anything is drawn of spans, of which these traces are chosen
 abbrev pub found_in : List PlainShownSpan → List PlainTrace → Found
@@ -41,13 +43,19 @@ pub record IsViewOf (view : View) (spans : List PlainShownSpan) (text : List ℕ
   pub drawn : PlainTraces
   pub traces_are : AreTracesOf spans traces
   pub chosen : IsChosen view.choice traces drawn
-  pub text_is : text ≡ written_of view.form drawn
+  pub text_is : text ≡ written_of view.form view.choice.attributes drawn
   pub found_is : found ≡ found_in spans drawn.traces
 
 -- an item of a list, by its number
 abbrev pub item_text : ItemList → ℕ → List ℕ
+item_text lists.ResourceSpans number = codes "resource " ++ decimal number
+item_text lists.Resources number = codes "the service of resource " ++ decimal number
 item_text (lists.ResourceAttributes resource) number =
     codes "attribute " ++ (decimal number ++ (codes " of resource " ++ decimal resource))
+item_text (lists.ScopeSpans resource) number =
+    codes "scope " ++ (decimal number ++ (codes " of resource " ++ decimal resource))
+item_text (lists.Spans resource scope) number =
+    codes "span " ++ (decimal number ++ (codes " of scope " ++ (decimal scope ++ (codes " of resource " ++ decimal resource))))
 item_text (lists.SpanAttributes span_id) number =
     codes "attribute " ++ (decimal number ++ (codes " of span " ++ hex_text 16 span_id))
 item_text (lists.SpanEvents span_id) number =
@@ -125,8 +133,8 @@ StatusOf notes status = ((status ≡ 0) × (notes.faults ≡ [])) ⊎ ((status �
 abbrev pub DrawsAndTells : View → Streams → Type 0 → (List ℕ → Type 0) → PlainNotes → Type 0
 DrawsAndTells view s Silent Says notes = DrawsView view s notes × Tells Silent Says (notes_text notes)
 
--- a view by the exit status: 0 where each line read; 2 where some did not, or not all of their attributes and events,
--- which are named; 1 where it failed
+-- a view by the exit status: 0 where each line read; 2 where some did not, or not all of their parts, which are named;
+-- 1 where it failed
 pub record Views (view : View) (s : Streams) (Silent : Type 0) (Says : List ℕ → Type 0) (status : ℕ)
     : Type 0 where
   pub small : status ≤ 2

@@ -81,6 +81,15 @@ fn choose(words: &[String], begun: Choice) -> Option<Choice>
             },
         );
     }
+    if word.as_str() == "--attributes" {
+        return choose(
+            after,
+            Choice {
+                attributes: true,
+                ..begun
+            },
+        );
+    }
     let (value, rest) = after.split_first()?;
     choose(rest, narrow(word.as_str(), value.as_str(), begun)?)
 }

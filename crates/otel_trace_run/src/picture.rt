@@ -47,12 +47,17 @@ pub enum PictureForm {
 }
 
 impl PictureForm {
-    /// The picture of traces.
-    pub(crate) fn draw(self, alloc: Global, traces: &Traces) -> Result<Vec<u8>, AllocError>
-        ensures { IfOk result (λ picture. picture.items ≡ picture_of self (plain_traces traces.now)) }
+    /// The picture of traces; the text form has attributes under its rows, if they are asked for.
+    pub(crate) fn draw(
+        self,
+        alloc: Global,
+        traces: &Traces,
+        attributes: bool,
+    ) -> Result<Vec<u8>, AllocError>
+        ensures { IfOk result (λ picture. picture.items ≡ picture_of self attributes (plain_traces traces.now)) }
     {
         match self {
-            PictureForm::Text { columns } => traces.to_text(alloc, columns),
+            PictureForm::Text { columns } => traces.to_text(alloc, columns, attributes),
             PictureForm::Svg => traces.to_svg(alloc),
         }
     }
@@ -66,7 +71,7 @@ impl SpanPainter for PictureForm {
     fn paint(&self, alloc: Global, spans: Vec<SpanData>) -> Result<Vec<u8>, AllocError> {
         let shown = shown_spans(alloc, spans)?;
         let traces = Traces::of(alloc, &shown)?;
-        self.draw(alloc, &traces)
+        self.draw(alloc, &traces, false)
     }
 }
 

@@ -109,18 +109,15 @@ fn read_view<R: Read>(alloc: Global, view: View, input: &mut R) -> Option<(Vec<u
 }
 
 /// What a view writes of spans, and whether anything is drawn.
-fn view_of(
-    alloc: Global,
-    view: View,
-    spans: &[ShownSpan],
-) -> Result<(Vec<u8>, Found), AllocError>
+fn view_of(alloc: Global, view: View, spans: &[ShownSpan]) -> Result<(Vec<u8>, Found), AllocError>
     ensures { IfOk result (λ drawn. IsViewOf view spans.now drawn.0.items drawn.1) }
 {
     let traces = Traces::of(alloc, spans)?.chosen(alloc, view.choice)?;
     let found = found_in(spans, &traces);
     let written = match view.form {
-        ViewForm::Picture(form) => form.draw(alloc, &traces)?,
+        ViewForm::Picture(form) => form.draw(alloc, &traces, view.choice.attributes)?,
         ViewForm::Summary => traces.to_summary(alloc)?,
+        ViewForm::Html => traces.to_html(alloc)?,
     };
     Ok((written, found))
 }
@@ -143,8 +140,17 @@ fn push_item(said: &mut String, list: ItemList, number: u64) -> Result<(), Alloc
     ensures { OnOk result (TextGrows said.old (item_text list number) said.new) }
 {
     match list {
+        ItemList::ResourceSpans => write!(said, "resource {number}"),
+        ItemList::Resources => write!(said, "the service of resource {number}"),
         ItemList::ResourceAttributes(resource) => {
             write!(said, "attribute {number} of resource {resource}")
+        }
+        ItemList::ScopeSpans(resource) => { write!(said, "scope {number} of resource {resource}") }
+        ItemList::Spans(resource, scope) => {
+            write!(
+                said,
+                "span {number} of scope {scope} of resource {resource}"
+            )
         }
         ItemList::SpanAttributes(span_id) => {
             write!(said, "attribute {number} of span {span_id}")

@@ -11,8 +11,8 @@ use Rattle.otel_picture.specs.declared.trace.Trace.{Trace}
 use Rattle.otel_picture.proofs.Joined.{taken}
 use Rattle.otel_picture.proofs.svg.push_svg_traces.Goals as goal
 
-pub of-requires-clause-there : goal.of-requires-clause-there
-of-requires-clause-there c =
+pub of-sheet-requires-clause-there : goal.of-sheet-requires-clause-there
+of-sheet-requires-clause-there c =
     All-head (λ (trace : Trace). All (λ (mark : Mark). mark.place < length c.args.spans.now) trace.family.marks.items)
     c.in-Some.trace.now c.in-Some.rest.now
     (subst (All (λ (trace : Trace). All (λ (mark : Mark). mark.place < length c.args.spans.now)
@@ -23,16 +23,17 @@ loop-trace-preserved c =
     let spans = c.args.spans.now in
     let cut = c.in-Some.ensures.cases.0 in
     let trace = plain_trace c.in-Some.trace.now in
+    let sheet = sheet_of svg_layout spans trace in
+    let is = c.of-sheet.ensures ∙ ap (λ (layout : Layout). sheet_of layout spans trace) c.svg.ensures in
     record {
       text = ap (λ n. string_bytes c.push_svg_trace.new.out ++ svg_traces spans n (map plain_trace c.in-Some.rest.now))
-          c.line_after_trace-line.ensures
+          (c.line_after_trace-line.ensures ∙ ap (λ (s : PlainSheet). line_after_trace s c.loop-trace.line) is)
           ∙ taken (string_bytes c.loop-trace.out) (string_bytes c.push_svg_trace.new.out)
-          (svg_trace (sheet_of svg_layout spans trace) c.loop-trace.line)
-          (svg_traces spans (line_after_trace c.loop-trace.line trace) (map plain_trace c.in-Some.rest.now))
+          (svg_trace sheet c.loop-trace.line)
+          (svg_traces spans (line_after_trace sheet c.loop-trace.line) (map plain_trace c.in-Some.rest.now))
           (svg_traces spans c.loop-trace.line (map plain_trace c.loop-trace.left.now)) _
           (c.in_ok-push_svg_trace.ensures
-          ∙ ap (λ (sheet : PlainSheet). string_bytes c.loop-trace.out ++ svg_trace sheet c.loop-trace.line)
-          (c.of.ensures ∙ ap (λ (layout : Layout). sheet_of layout spans trace) c.svg.ensures))
+          ∙ ap (λ (s : PlainSheet). string_bytes c.loop-trace.out ++ svg_trace s c.loop-trace.line) is)
           (ap (λ ts. svg_traces spans c.loop-trace.line (map plain_trace ts)) cut)
           c.loop-trace.invariant.text;
       there = All-rest (λ (trace : Trace). All (λ (mark : Mark). mark.place < length spans) trace.family.marks.items)
