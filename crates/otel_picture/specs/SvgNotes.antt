@@ -26,7 +26,8 @@ event_note indent event =
 abbrev pub link_note : (indent : ℕ) → PlainShownLink → List ℕ
 link_note indent link = note_svg indent (codes "&gt; ") (link_text link)
 
-abbrev pub notes_text : (indent : ℕ) → PlainShownSpan → List ℕ
+-- those of a span
+unfoldable pub notes_text : (indent : ℕ) → PlainShownSpan → List ℕ
 notes_text indent span = flat_map (event_note indent) span.events ++ flat_map (link_note indent) span.links
 
 -- how many exceptions are among events

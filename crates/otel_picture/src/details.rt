@@ -54,7 +54,7 @@ fn value_in<'a>(attributes: &'a str, key: &str) -> Option<&'a str>
 /// Appends a part of what is said of an exception, after a sign, if it is there.
 fn push_part(out: &mut String, sign: &str, part: Option<&str>) -> Result<(), AllocError>
     ensures { OnOk result
-        (TextGrows out.old (part_text sign.now (option_map (λ text. text.now) part)) out.new) }
+        (TextGrows out.old (part_text sign.now (option_map (λ text. text.now) part.entry)) out.new) }
 {
     match part {
         Some(text) => {
@@ -134,12 +134,7 @@ impl Under {
     }
 
     /// Appends a line of attributes; none of an empty one.
-    fn push_attribute(
-        self,
-        alloc: Global,
-        text: &mut String,
-        line: &str,
-    ) -> Result<(), AllocError>
+    fn push_attribute(self, alloc: Global, text: &mut String, line: &str) -> Result<(), AllocError>
         ensures { OnOk result (TextGrows text.old (attribute_text self line.now) text.new) }
     {
         if line.is_empty() {
@@ -227,12 +222,7 @@ impl Under {
     }
 
     /// Appends a link and its attributes.
-    fn push_link(
-        self,
-        alloc: Global,
-        text: &mut String,
-        link: &ShownLink,
-    ) -> Result<(), AllocError>
+    fn push_link(self, alloc: Global, text: &mut String, link: &ShownLink) -> Result<(), AllocError>
         ensures { OnOk result (TextGrows text.old (link_lines self link.now) text.new) }
     {
         let said = link_of(alloc, link)?;

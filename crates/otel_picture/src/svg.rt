@@ -201,10 +201,7 @@ impl Traces<'_> {
         ensures { IfOk result (λ text. text.items ≡ svg_text (plain_traces self.now)) }
     {
         let mut text = String::new(alloc);
-        push_begin(
-            &mut text,
-            down(last_line(self.spans, &self.traces), 10),
-        )?;
+        push_begin(&mut text, down(last_line(self.spans, &self.traces), 10))?;
         push_svg_traces(alloc, &mut text, self.spans, &self.traces)?;
         text.push_str("</svg>\n")?;
         Ok(text.into_bytes())

@@ -111,6 +111,7 @@ fn push_link_notes(
 }
 
 /// Appends the lines under the row of a span.
+#[tactic(auto, unfolding(crate::specs::SvgNotes::notes_text))]
 fn push_notes(
     alloc: Global,
     out: &mut String,

@@ -35,9 +35,7 @@ use crate::durations::push_duration;
 use crate::row_text::{kind_text, label_of};
 use crate::rows::Row;
 use crate::sheet::{Sheet, is_error};
-use crate::svg_parts::{
-    down, push_label, push_mark, push_place, push_sign, push_title, push_when,
-};
+use crate::svg_parts::{down, push_label, push_mark, push_place, push_sign, push_title, push_when};
 use crate::texts::{push_cut, push_shown};
 use opentelemetry::trace::Status;
 use otel_shown::{ShownEvent, ShownLink, ShownSpan};
@@ -118,11 +116,7 @@ fn push_link_title(alloc: Global, out: &mut String, link: &ShownLink) -> Result<
 }
 
 /// Appends links, as lines of a title.
-fn push_link_titles(
-    alloc: Global,
-    out: &mut String,
-    links: &[ShownLink],
-) -> Result<(), AllocError>
+fn push_link_titles(alloc: Global, out: &mut String, links: &[ShownLink]) -> Result<(), AllocError>
     ensures { OnOk result (TextGrows out.old (flat_map link_title links.now) out.new) }
 {
     for link in links {
