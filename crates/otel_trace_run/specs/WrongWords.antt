@@ -89,7 +89,9 @@ abbrev mutual
   pub pass_choices : List (List ℕ) → Result (Unit {0}) PlainWrong
   pass_choices [] = Ok tt
   pass_choices (text ∷ words) =
-      if bytes_eq text (codes "--errors") then pass_choices words else pass_choice text (wanted_after text) words
+      if bytes_eq text (codes "--errors") then pass_choices words else
+      (if bytes_eq text (codes "--attributes") then pass_choices words
+      else pass_choice text (wanted_after text) words)
 
   pub pass_choice : List ℕ → Option Wanted → List (List ℕ) → Result (Unit {0}) PlainWrong
   pass_choice text None words = Err (word text wants.Choice)

@@ -49,7 +49,7 @@ pub const PROCESSOR: &str = "simple, or batch Q B";
 pub const NUMBER: &str = "a whole number below 2^64";
 pub const COLUMNS: &str = "COLUMNS, from 20 to 400";
 pub const FORM: &str = "COLUMNS, from 20 to 400, svg or json";
-pub const CHOICE: &str = "--errors, --slowest N or --trace ID";
+pub const CHOICE: &str = "--errors, --slowest N, --trace ID or --attributes";
 pub const ID: &str = "an ID of 32 digits 0-9 a-f";
 pub const NOTHING: &str = "no more words";
 
@@ -247,7 +247,7 @@ fn pass_choices(words: &[String]) -> Result<(), Wrong<'_>>
         return Ok(());
     };
     let word = word.as_str();
-    if word == "--errors" {
+    if word == "--errors" || word == "--attributes" {
         return pass_choices(after);
     }
     let Some(wanted) = wanted_after(word) else {
