@@ -1,7 +1,7 @@
 -- The text of a batch, and the lines of batches, are read back.
-use Rattle.std.specs.Prelude.{◌&&◌, is_some}
+use Rattle.std.specs.Prelude.{◌&&◌, ◌||◌, is_some, not}
 use Rattle.std.proofs.Common.{◌≡◌, ◌+◌, ◌==◌, ℕ, true, false, cond, List, [], ◌∷◌, ◌++◌, map, Some, Ok}
-use Rattle.std.proofs.Common.{refl, sym, ap, ◌∙◌, flat_map, append-nil}
+use Rattle.std.proofs.Common.{refl, sym, ap, ◌∙◌, flat_map}
 use Rattle.std.proofs.lemmas.Str.{is_utf8-from_IsUtf8}
 use Rattle.std.proofs.lemmas.List.{map-append}
 use Rattle.std.proofs.lemmas.List.Concat.{flat_map-cons}
@@ -12,18 +12,20 @@ use Rattle.json.specs.Print.{print_from}
 use Rattle.otel_resource.specs.Resource.{PlainResource}
 use Rattle.otel_export.specs.PlainSpanData.{PlainSpanData, spans_in}
 use Rattle.otel_otlp.specs.Fits.{SpanFits}
-use Rattle.otel_otlp.specs.Otlp.{otlp_lines, otlp_text}
-use Rattle.otel_shown.specs.Shown.{shown_span}
-use Rattle.otel_otlp_read.specs.Inputs.{PlainReadText, and_read, begins_with_json, is_blank, is_json, left_faults}
-use Rattle.otel_otlp_read.specs.Inputs.{nothing_read, of_document, of_line, one_if_none, read_document, read_input}
-use Rattle.otel_otlp_read.specs.Inputs.{read_lines, resource_faults, resource_shown, spanless_in, text_lines}
-use Rattle.otel_otlp_read.specs.Requests.{PlainReadResource, read_request, service_of, whole_batch, whole_span}
+use Rattle.otel_otlp.specs.Otlp.{otlp_line, otlp_lines, otlp_text}
+use Rattle.otel_shown.specs.Shown.{PlainShownSpan, shown_span}
+use Rattle.otel_otlp_read.specs.Inputs.{PlainReadText, and_read, begins_with_json, is_blank, is_json, nothing_read}
+use Rattle.otel_otlp_read.specs.Inputs.{of_document, of_line, one_if_none, read_document, read_input, read_lines}
+use Rattle.otel_otlp_read.specs.Inputs.{read_part, read_parts, read_unmarked, spanless_in, text_lines}
+use Rattle.otel_otlp_read.specs.Cuts.{parts, without_mark}
+use Rattle.otel_otlp_read.specs.Kept.{Kept}
+use Rattle.otel_otlp_read.specs.Requests.{read_request, service_of, whole_batch}
 use Rattle.otel_otlp_read.proofs.Documents.{read_json}
 
 -- a text that is UTF-8 and JSON
-pub document_back : (text : List ℕ) (j : Json) (reads : List PlainReadResource) → IsUtf8 text → document text ≡ Some j
-    → read_request j ≡ Ok reads → read_document text ≡ Ok reads
-document_back text j reads utf8 is e = read_json text j utf8 is ∙ e
+pub document_back : (text : List ℕ) (j : Json) (read : Kept PlainShownSpan) → IsUtf8 text → document text ≡ Some j
+    → read_request j ≡ Ok read → read_document text ≡ Ok read
+document_back text j read utf8 is e = read_json text j utf8 is ∙ e
 
 pub json_back : (text : List ℕ) (j : Json) → IsUtf8 text → document text ≡ Some j → is_json text ≡ true
 json_back text j utf8 is = ap (λ t. t && is_some (document text)) (is_utf8-from_IsUtf8 text utf8) ∙ ap is_some is
@@ -41,45 +43,22 @@ read_of service batch = record {
   spanless = one_if_none batch;
 }
 
-spans_whole : (service : List ℕ) (batch : List PlainSpanData)
-    → map (λ read. read.span) (map (whole_span service) batch) ≡ map (shown_span service) batch
-spans_whole service [] = refl
-spans_whole service (span ∷ batch) = ap (λ spans. shown_span service span ∷ spans) (spans_whole service batch)
-
-none_left : (line : ℕ) (service : List ℕ) (batch : List PlainSpanData)
-    → flat_map (left_faults line) (map (whole_span service) batch) ≡ []
-none_left line service [] = refl
-none_left line service (span ∷ batch) =
-    flat_map-cons (left_faults line) (whole_span service span) (map (whole_span service) batch)
-    ∙ none_left line service batch
-
 none_whole : (service : List ℕ) (batch : List PlainSpanData)
     → one_if_none (map (shown_span service) batch) ≡ one_if_none batch
 none_whole service [] = refl
 none_whole service (span ∷ batch) = refl
 
 whole_document : (line : ℕ) (resource : PlainResource) (batch : List PlainSpanData)
-    → of_document line (Ok (whole_batch resource batch ∷ [])) ≡ read_of (service_of resource) batch
+    → of_document line (Ok (whole_batch resource batch)) ≡ read_of (service_of resource) batch
 whole_document line resource batch =
-    let shown = resource_shown (whole_batch resource batch) in
-    let same :
-    flat_map resource_shown (whole_batch resource batch ∷ []) ≡ map (shown_span (service_of resource)) batch =
-    flat_map-cons resource_shown (whole_batch resource batch) []
-    ∙ append-nil shown ∙ spans_whole (service_of resource) batch in
-    let none : flat_map (resource_faults line) (whole_batch resource batch ∷ []) ≡ [] =
-    flat_map-cons (resource_faults line) (whole_batch resource batch) []
-    ∙ append-nil (resource_faults line (whole_batch resource batch)) ∙ none_left line (service_of resource) batch in
-    λ i. record {
-      spans = same i;
-      faults = none i;
-      spanless = (ap one_if_none same ∙ none_whole (service_of resource) batch) i;
-    }
+    let shown = map (shown_span (service_of resource)) batch in
+    ap (λ n. record { spans = shown; faults = []; spanless = n }) (none_whole (service_of resource) batch)
 
 module _ (resource : PlainResource) where
   -- the text of a batch is JSON, and read as its spans
   pub record Reads (batch : List PlainSpanData) : Type 0 where
     pub json : is_json (otlp_text resource batch) ≡ true
-    pub spans : read_document (otlp_text resource batch) ≡ Ok (whole_batch resource batch ∷ [])
+    pub spans : read_document (otlp_text resource batch) ≡ Ok (whole_batch resource batch)
 
   -- each batch is read, where each that fits is
   pub each_reads : (batches : List (List PlainSpanData))
@@ -128,12 +107,27 @@ module _ (resource : PlainResource) where
       (is_json (otlp_text resource batch))) (not_blank resource batch)
       ∙ h.0.json
 
+  -- no mark stands in front of the lines
+  begins_with_brace : (batch : List PlainSpanData) (after : List ℕ)
+      → without_mark (otlp_line resource batch ++ after) ≡ otlp_line resource batch ++ after
+  unfolding print_from
+  begins_with_brace batch after = refl
+
+  unmarked_back : (batches : List (List PlainSpanData)) → without_mark (otlp_lines resource batches) ≡ otlp_lines resource batches
+  unmarked_back [] = refl
+  unmarked_back (batch ∷ batches) =
+      ap without_mark (flat_map-cons (otlp_line resource) batch batches)
+      ∙ begins_with_brace batch (flat_map (otlp_line resource) batches)
+      ∙ sym (flat_map-cons (otlp_line resource) batch batches)
+
   pub input_back : (batches : List (List PlainSpanData)) → AllByRecursion Reads batches
       → slice_split (λ b. b == 10) (otlp_lines resource batches) ≡ map (otlp_text resource) batches ++ [] ∷ []
       → read_input (otlp_lines resource batches) ≡ all_of batches
-  unfolding read_input
+  unfolding read_input read_unmarked read_part
   input_back batches h cut =
       let text = otlp_lines resource batches in
-      let whole = cond (is_json text) (of_document 1 (read_document text)) (read_lines 1 (text_lines text)) in
-      ap (λ t. cond t (read_lines 1 (text_lines text)) whole) (ap begins_with_json cut ∙ begins_back batches h)
+      let begins : begins_with_json (text_lines text) ≡ true = ap begins_with_json cut ∙ begins_back batches h in
+      ap read_unmarked (unmarked_back batches)
+      ∙ ap (λ t. cond (t || is_json text) (read_part 1 text) (read_parts 1 (parts text))) begins
+      ∙ ap (λ t. cond (t || not (is_json text)) (read_lines 1 (text_lines text)) (of_document 1 (read_document text))) begins
       ∙ ap (read_lines 1) cut ∙ lines_back 1 batches h

@@ -8,8 +8,9 @@ pub mod KeptReading
 pub mod LeftLines
 pub mod LineReading
 pub mod Listing
+pub mod PartReading
+pub mod RequestChoices
 pub mod RequestsRead
-pub mod ResourceReading
 pub mod SpansRead
 pub mod Turns
 pub mod ValuesRead

@@ -2,13 +2,15 @@
 use Rattle.std.proofs.Common.{◌≡◌, ◌+◌, ◌<◌, ◌≤◌, ◌⊎◌, ℕ, Bool, true, false, cond, List, [], ◌∷◌, Option, None, Some}
 use Rattle.std.proofs.Common.{Result, Ok, Err}
 use Rattle.std.proofs.Common.{IfSome, length, refl, sym, ap, ◌∙◌, arith, inl, inr, add_assoc, add-zero}
-use Rattle.std.proofs.Common.{append_assoc, append-nil, flat_map}
+use Rattle.std.proofs.Common.{append_assoc, append-nil}
 use Rattle.std.specs.Borrow.{Bor}
 use Rattle.otel_otlp_read.specs.declared.fault.Fault.{Fault}
-use Rattle.otel_otlp_read.specs.Requests.{PlainReadResource}
+use Rattle.otel_shown.specs.Shown.{PlainShownSpan}
+use Rattle.otel_otlp_read.specs.Kept.{Kept}
+use Rattle.otel_otlp_read.specs.declared.left_out.LeftOut.{LeftOut}
 use Rattle.otel_otlp_read.specs.Inputs.{PlainReadText, and_read, begins_with_json, is_blank, is_json, lines_after}
-use Rattle.otel_otlp_read.specs.Inputs.{nothing_read, of_document, of_line, one_if_none, read_document, read_input}
-use Rattle.otel_otlp_read.specs.Inputs.{read_lines, resource_shown, text_lines}
+use Rattle.otel_otlp_read.specs.Inputs.{nothing_read, of_document, of_line, one_if_none, one_if_spanless}
+use Rattle.otel_otlp_read.specs.Inputs.{read_document, read_lines, text_lines}
 use Rattle.otel_otlp_read.proofs.LeftLines.{left, left_text}
 
 -- the lines that are left, of which this is the first
@@ -59,8 +61,12 @@ one_small : {A : Type 0} (xs : List A) → one_if_none xs ≤ 1
 one_small [] = omega arith
 one_small (x ∷ xs) = omega arith
 
-document_few : (number : ℕ) (read : Result (List PlainReadResource) Fault) → (of_document number read).spanless ≤ 1
-document_few number (Ok reads) = one_small (flat_map resource_shown reads)
+spanless_small : {A : Type 0} (spans : List A) (left_out : List LeftOut) → one_if_spanless spans left_out ≤ 1
+spanless_small spans [] = one_small spans
+spanless_small spans (left ∷ others) = omega arith
+
+pub document_few : (number : ℕ) (read : Result (Kept PlainShownSpan) Fault) → (of_document number read).spanless ≤ 1
+document_few number (Ok read) = spanless_small read.kept read.left_out
 document_few number (Err fault) = omega arith
 
 few_by : (t : Bool) (read : PlainReadText) → read.spanless ≤ 1 → (cond t nothing_read read).spanless ≤ 1
@@ -91,28 +97,3 @@ pub left_falls : (after : Option (Bor (List ℕ))) (rest : Bor (List ℕ))
     → IfSome after (λ a. length a.now < length rest.now) → left (left_text after) ≤ length rest.now
 left_falls None rest h = omega arith
 left_falls (Some a) rest h = omega arith
-
--- an input read line by line, or as a whole
-pub input_lines : (text : List ℕ)
-    → (begins_with_json (text_lines text) ≡ true) ⊎ (is_json text ≡ false)
-    → read_lines 1 (text_lines text) ≡ read_input text
-unfolding read_input
-input_lines text (inl begins) =
-    sym (ap (λ t. cond t (read_lines 1 (text_lines text))
-    (cond (is_json text) (of_document 1 (read_document text)) (read_lines 1 (text_lines text)))) begins)
-input_lines text (inr none) =
-    sym (ap (λ t. cond (begins_with_json (text_lines text)) (read_lines 1 (text_lines text))
-    (cond t (of_document 1 (read_document text)) (read_lines 1 (text_lines text)))) none
-    ∙ same (begins_with_json (text_lines text)) (read_lines 1 (text_lines text)))
-  where
-    same : (t : Bool) (read : PlainReadText) → cond t read read ≡ read
-    same true read = refl
-    same false read = refl
-
-pub input_whole : (text : List ℕ) → begins_with_json (text_lines text) ≡ false → is_json text ≡ true
-    → of_document 1 (read_document text) ≡ read_input text
-unfolding read_input
-input_whole text begins whole =
-    sym (ap (λ t. cond t (read_lines 1 (text_lines text))
-    (cond (is_json text) (of_document 1 (read_document text)) (read_lines 1 (text_lines text)))) begins
-    ∙ ap (λ t. cond t (of_document 1 (read_document text)) (read_lines 1 (text_lines text))) whole)

@@ -22,12 +22,11 @@ use Rattle.otel_otlp_read.specs.declared.left_out.ItemList.TheVariants as lists
 use Rattle.otel_otlp_read.specs.Kept.{kept_from}
 use Rattle.otel_otlp_read.specs.Members.{listed}
 use Rattle.otel_otlp_read.specs.Reading.{◌>>=◌, joined, needed, only}
-use Rattle.otel_otlp_read.specs.Requests.{whole_span}
 use Rattle.otel_otlp_read.specs.Numbers.{id_of, is_integer, moment_of, parent_number, parent_of, whole_number}
 use Rattle.otel_otlp_read.specs.SpanLists.{attribute_line, attributes_of, event_in, events_of, lines_of, link_in, links_of}
 use Rattle.otel_otlp_read.specs.SpanParts.{kind_of, numbered_code, numbered_kind, span_in, status_in, status_of}
 use Rattle.otel_otlp_read.proofs.DigitsRead.{decimal_whole, hex_id, hex_parent, signed_integer}
-use Rattle.otel_otlp_read.proofs.KeptReading.{kept_back}
+use Rattle.otel_otlp_read.proofs.KeptReading.{items_back}
 use Rattle.otel_otlp_read.proofs.ValuesRead.{attribute_back, joined_back, listed-items_of}
 
 -- a moment
@@ -101,15 +100,15 @@ link_back link h = rw (
 attributes_back : (list : ItemList) (attributes : List PlainKeyValue) → AllByRecursion AttributeFits attributes
     → kept_from attribute_line list 1 (map attribute_json attributes)
     ≡ record { kept = shown.attribute_lines attributes; left_out = [] }
-attributes_back list = kept_back attribute_line list attribute_json shown.attribute_line AttributeFits attribute_back 1
+attributes_back list = items_back attribute_line list attribute_json shown.attribute_line AttributeFits attribute_back
 
 -- and events
 all_events_back : (list : ItemList) (events : List PlainEvent) → AllByRecursion EventFits events
     → kept_from (λ item. only (event_in item)) list 1 (map event_json events)
     ≡ record { kept = map shown_event events; left_out = [] }
 all_events_back list events h =
-    kept_back (λ item. only (event_in item)) list event_json (λ e. shown_event e ∷ []) EventFits
-    (λ e k. ap only (event_back e k)) 1 events h
+    items_back (λ item. only (event_in item)) list event_json (λ e. shown_event e ∷ []) EventFits
+    (λ e k. ap only (event_back e k)) events h
     ∙ ap (λ kept. record { kept = kept; left_out = [] }) (flat_map_single shown_event events)
 
 -- and links
@@ -117,8 +116,8 @@ all_links_back : (list : ItemList) (links : List PlainLink) → AllByRecursion L
     → kept_from (λ item. only (link_in item)) list 1 (map link_json links)
     ≡ record { kept = map shown_link links; left_out = [] }
 all_links_back list links h =
-    kept_back (λ item. only (link_in item)) list link_json (λ l. shown_link l ∷ []) LinkFits
-    (λ l k. ap only (link_back l k)) 1 links h
+    items_back (λ item. only (link_in item)) list link_json (λ l. shown_link l ∷ []) LinkFits
+    (λ l k. ap only (link_back l k)) links h
     ∙ ap (λ kept. record { kept = kept; left_out = [] }) (flat_map_single shown_link links)
 
 -- the members of a span that is written
@@ -173,7 +172,8 @@ module _ (span : PlainSpanData) (h : SpanFits span) where
       (listed-items_of (map link_json span.links.links))
       ∙ ap Ok (all_links_back (lists.SpanLinks span_id) span.links.links h.links)
 
-  pub span_back : (service : List ℕ) → span_in service (span_json span) ≡ Ok (whole_span service span)
+  pub span_back : (service : List ℕ) → span_in service (span_json span)
+      ≡ Ok (record { span = shown.shown_span service span; left_out = [] })
   unfolding span_in
   span_back service =
       rw (

@@ -74,12 +74,12 @@ around_fails errors.OutOfMemory front first last read h = tt
 around_fails (errors.Fault fault) front first last (Ok more) h = absurd cc
 around_fails (errors.Fault fault) front first last (Err other) h = h
 
-module _ {V A : Type 0} (view : V → Json) (read : Json → Result (List A) Fault) where
-  -- what is left, of which x is the first
-  pub first_left : (items : List V) (i : ℕ) (x : V) → i < length items → x ≡ get_or items i x
-      → drop i items ≡ x ∷ drop (i + 1) items
-  first_left items i x within is = drop_more items i x within ∙ ap (λ y. y ∷ drop (i + 1) items) (sym is)
+-- what is left, of which x is the first
+pub first_left : {V : Type 0} (items : List V) (i : ℕ) (x : V) → i < length items → x ≡ get_or items i x
+    → drop i items ≡ x ∷ drop (i + 1) items
+first_left items i x within is = drop_more items i x within ∙ ap (λ y. y ∷ drop (i + 1) items) (sym is)
 
+module _ {V A : Type 0} (view : V → Json) (read : Json → Result (List A) Fault) where
   -- one item more is read
   pub goes_on : (items : List V) (i : ℕ) (x : V) (front now : List A) (total : Result (List A) Fault)
       → i < length items → x ≡ get_or items i x

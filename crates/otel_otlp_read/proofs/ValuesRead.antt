@@ -25,7 +25,7 @@ use Rattle.otel_shown.specs.Shown as shown
 use Rattle.otel_otlp_read.specs.declared.fault.Fault.{Fault}
 use Rattle.otel_otlp_read.specs.declared.fault.Fault.TheVariants as faults
 use Rattle.otel_otlp_read.specs.Reading.{◌>>=◌, joined, needed}
-use Rattle.otel_otlp_read.specs.Members.{listed, or_default, unless_null}
+use Rattle.otel_otlp_read.specs.Members.{first_of, listed, or_default, own_name, unless_null}
 use Rattle.otel_otlp_read.specs.AnyValue.{after_comma, comma_joined, double_of, kind_count, shown_item, shown_list}
 use Rattle.otel_otlp_read.specs.AnyValue.{shown_pair, shown_scalar, shown_value, shown_with}
 use Rattle.otel_otlp_read.specs.SpanLists.{attribute_line}
@@ -67,18 +67,18 @@ commas_back json read out P back (x ∷ xs) h =
 
 -- values that are no lists
 truth_back : (depth : ℕ) (is_quoted truth : Bool) → shown_value (suc depth) is_quoted (bool_json truth) ≡ Ok (truth_text truth)
-unfolding shown_value shown_with shown_scalar kind_count
+unfolding shown_value shown_with shown_scalar kind_count own_name
 truth_back depth is_quoted truth = refl
 
 integer_back : (depth : ℕ) (is_quoted : Bool) (number : ℤ) → FitsSigned w64 number
     → shown_value (suc depth) is_quoted (integer_json number) ≡ Ok (signed_decimal number)
-unfolding shown_value shown_with shown_scalar kind_count
+unfolding shown_value shown_with shown_scalar kind_count own_name
 integer_back depth is_quoted number h =
     ap (λ t. needed faults.IntForm (cond t (Some (signed_decimal number)) None)) (signed_integer number h)
 
 text_back : (depth : ℕ) (is_quoted : Bool) (bytes : List ℕ)
     → shown_value (suc depth) is_quoted (text_json bytes) ≡ Ok (cond is_quoted (quoted_text bytes) bytes)
-unfolding shown_value shown_with shown_scalar kind_count
+unfolding shown_value shown_with shown_scalar kind_count own_name
 text_back depth is_quoted bytes = refl
 
 -- a float is read back as itself, and shown by its text
@@ -94,7 +94,7 @@ shown_found found = needed faults.DoubleForm (option_map float_text found)
 
 float_back : (depth : ℕ) (is_quoted : Bool) (x : Float) → FloatFits x
     → shown_value (suc depth) is_quoted (double_json x) ≡ Ok (float_text x)
-unfolding shown_value shown_with shown_scalar kind_count
+unfolding shown_value shown_with shown_scalar kind_count own_name
 float_back depth is_quoted nan h = ap shown_found (float_read nan h)
 float_back depth is_quoted (inf true) h = ap shown_found (float_read (inf true) h)
 float_back depth is_quoted (inf false) h = ap shown_found (float_read (inf false) h)
@@ -116,7 +116,7 @@ array_back : (depth : ℕ) (is_quoted : Bool) (value : PlainValue)
     → shown_value (suc (suc depth)) is_quoted (array_json value)
     ≡ shown_list (shown_value (suc depth) true) false
     (json.object (json.member (codes "values") (json.array (items_of (array_items value))) json.no_members))
-unfolding shown_value shown_with kind_count
+unfolding shown_value shown_with kind_count own_name
 array_back depth is_quoted value = refl
 
 always : {X : Type 0} (xs : List X) → AllByRecursion (λ x. Unit {0}) xs
@@ -156,12 +156,14 @@ value_given (doubles xs) = refl
 
 -- what is read of it in its place
 pub member_back : (value : PlainValue) → ValueFits value
-    → or_default [] (shown_value 64 false) (unless_null (value_json value)) ≡ Ok (value_text value)
-member_back value h = ap (or_default [] (shown_value 64 false)) (value_given value) ∙ value_back 62 value h
+    → or_default [] (shown_value 64 false) (first_of (unless_null (value_json value)) None) ≡ Ok (value_text value)
+member_back value h =
+    ap (λ found. or_default [] (shown_value 64 false) (first_of found None)) (value_given value) ∙ value_back 62 value h
 
 -- a key and its value
 pub pair_back : (pair : List ℕ × PlainValue) → ValueFits pair.1
     → shown_pair (shown_value 64 false) (pair_json pair) ≡ Ok (pair.0 ++ 61 ∷ value_text pair.1)
+unfolding own_name
 pair_back pair h = ap (λ r. r >>= λ t. Ok (pair.0 ++ 61 ∷ t)) (member_back pair.1 h)
 
 pub attribute_back : (attribute : PlainKeyValue) → AttributeFits attribute

@@ -1,7 +1,7 @@
--- Whole inputs: a document a line, or one document over many lines.
+-- Whole inputs: a document a line, or documents that are laid out over lines.
 use Rattle.std.specs.Prelude.{ℕ, ◌+◌, ◌&&◌, ◌||◌, ◌==◌, Bool, true, List, [], ◌∷◌, ◌++◌, Option, Some, None}
-use Rattle.std.specs.Prelude.{Result, Ok, Err, if◌then◌else◌, is_some, map}
-use Rattle.std.specs.List.{flat_map, list_all, slice_split}
+use Rattle.std.specs.Prelude.{Result, Ok, Err, if◌then◌else◌, is_some, length, map, not}
+use Rattle.std.specs.List.{list_all, slice_split}
 use Rattle.std.specs.Str.{is_utf8}
 use Rattle.json.specs.Json.{Json, document}
 use Rattle.otel_shown.specs.Shown.{PlainShownSpan}
@@ -9,15 +9,16 @@ use Rattle.otel_otlp_read.specs.declared.fault.Fault.{Fault}
 use Rattle.otel_otlp_read.specs.declared.fault.Fault.TheVariants as faults
 use Rattle.otel_otlp_read.specs.declared.input.LineFault.{LineFault}
 use Rattle.otel_otlp_read.specs.declared.left_out.LeftOut.{LeftOut}
-use Rattle.otel_otlp_read.specs.Requests.{PlainReadResource, read_request}
-use Rattle.otel_otlp_read.specs.SpanParts.{PlainReadSpan}
+use Rattle.otel_otlp_read.specs.Cuts.{parts, without_mark}
+use Rattle.otel_otlp_read.specs.Kept.{Kept}
+use Rattle.otel_otlp_read.specs.Requests.{read_request}
 
 -- the spans of the request that a text is, if it is JSON
-abbrev pub read_parsed : Option Json → Result (List PlainReadResource) Fault
+abbrev pub read_parsed : Option Json → Result (Kept PlainShownSpan) Fault
 read_parsed None = Err faults.NotJson
 read_parsed (Some j) = read_request j
 
-unfoldable pub read_document : List ℕ → Result (List PlainReadResource) Fault
+unfoldable pub read_document : List ℕ → Result (Kept PlainShownSpan) Fault
 read_document text = if is_utf8 text then read_parsed (document text) else Err faults.NotJson
 
 -- what is read of an input: its spans in order, the faults of its lines with what was left out of them, and how many
@@ -69,32 +70,17 @@ spanless_in (batch ∷ batches) = one_if_none batch + spanless_in batches
 abbrev pub left_fault : ℕ → LeftOut → LineFault
 left_fault line left = record { line = line; item = Some left.item; fault = left.fault }
 
--- out of a span of it
-abbrev pub left_faults : ℕ → PlainReadSpan → List LineFault
-left_faults line read = map (left_fault line) read.left_out
-
--- and out of a resource of it, and then of the spans of that
-abbrev pub resource_faults : ℕ → PlainReadResource → List LineFault
-resource_faults line read = map (left_fault line) read.left_out ++ flat_map (left_faults line) read.spans
-
--- and out of resources
-abbrev pub document_faults : ℕ → List PlainReadResource → List LineFault
-document_faults line reads = flat_map (resource_faults line) reads
-
--- the spans of a resource
-abbrev pub resource_shown : PlainReadResource → List PlainShownSpan
-resource_shown read = map (λ span. span.span) read.spans
-
--- 1 where no resource has a span
-abbrev pub one_if_spanless : List PlainReadResource → ℕ
-one_if_spanless reads = one_if_none (flat_map resource_shown reads)
+-- 1 where nothing is read, and nothing left out
+abbrev pub one_if_spanless : {A : Type 0} → List A → List LeftOut → ℕ
+one_if_spanless spans [] = one_if_none spans
+one_if_spanless spans (left ∷ others) = 0
 
 -- a document that begins in a line: its spans, or its fault
-abbrev pub of_document : ℕ → Result (List PlainReadResource) Fault → PlainReadText
-of_document line (Ok reads) = record {
-  spans = flat_map resource_shown reads;
-  faults = document_faults line reads;
-  spanless = one_if_spanless reads;
+abbrev pub of_document : ℕ → Result (Kept PlainShownSpan) Fault → PlainReadText
+of_document line (Ok read) = record {
+  spans = read.kept;
+  faults = map (left_fault line) read.left_out;
+  spanless = one_if_spanless read.kept read.left_out;
 }
 of_document line (Err fault) = record {
   spans = [];
@@ -120,8 +106,24 @@ unfoldable pub begins_with_json : List (List ℕ) → Bool
 begins_with_json [] = true
 begins_with_json (line ∷ lines) = if is_blank line then begins_with_json lines else is_json line
 
--- an input: a document a line; but where its first line is no JSON, and it is as a whole, one document
+-- a part of an input that begins in a line: a document a line; but where its first line is no JSON, and it is as a
+-- whole, one document
+unfoldable pub read_part : ℕ → List ℕ → PlainReadText
+read_part number text =
+    if begins_with_json (text_lines text) || not (is_json text) then read_lines number (text_lines text)
+    else of_document number (read_document text)
+
+-- parts, the first of which begins in this line
+unfoldable pub read_parts : ℕ → List (List ℕ) → PlainReadText
+read_parts number [] = nothing_read
+read_parts number (text ∷ texts) =
+    and_read (read_part number text) (read_parts (number + length (text_lines text)) texts)
+
+-- an input without a mark: where its first line is JSON, or it is as a whole, one part; else each part by itself
+unfoldable pub read_unmarked : List ℕ → PlainReadText
+read_unmarked text =
+    if begins_with_json (text_lines text) || is_json text then read_part 1 text else read_parts 1 (parts text)
+
+-- an input, with a mark in front of it or without
 unfoldable pub read_input : List ℕ → PlainReadText
-read_input text =
-    if begins_with_json (text_lines text) then read_lines 1 (text_lines text) else
-    (if is_json text then of_document 1 (read_document text) else read_lines 1 (text_lines text))
+read_input text = read_unmarked (without_mark text)

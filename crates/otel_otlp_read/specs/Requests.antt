@@ -1,7 +1,7 @@
 -- The spans of an `ExportTraceServiceRequest` in the OpenTelemetry protocol's JSON (OTLP 1.7, "JSON Protobuf Encoding"),
--- in order.
+-- in order. A span, a scope or a resource that does not read is left out.
 use Rattle.std.specs.Prelude.{ℕ, ◌+◌, ◌||◌, Bool, false, true, List, [], ◌∷◌, codes, Option, Some, None}
-use Rattle.std.specs.Prelude.{Result, Ok, Err, if◌then◌else◌, is_some, map}
+use Rattle.std.specs.Prelude.{Result, Ok, Err, if◌then◌else◌, is_some, map, option_and_then}
 use Rattle.std.specs.Str.{bytes_eq}
 use Rattle.std.specs.FinMap.{entries}
 use Rattle.json.specs.Json.{Json, null, boolean, number, string, array, object, no_members, member}
@@ -10,83 +10,59 @@ use Rattle.opentelemetry.specs.Plain.{PlainValue}
 use Rattle.opentelemetry.specs.ValueText.{value_text}
 use Rattle.otel_resource.specs.Resource.{PlainResource}
 use Rattle.otel_export.specs.PlainSpanData.{PlainSpanData}
-use Rattle.otel_shown.specs.Shown.{shown_span}
+use Rattle.otel_shown.specs.Shown.{PlainShownSpan, shown_span}
 use Rattle.otel_otlp_read.specs.declared.fault.Fault.{Fault}
 use Rattle.otel_otlp_read.specs.declared.fault.Fault.TheVariants as faults
+use Rattle.otel_otlp_read.specs.declared.left_out.ItemList.{ItemList}
 use Rattle.otel_otlp_read.specs.declared.left_out.ItemList.TheVariants as lists
-use Rattle.otel_otlp_read.specs.declared.left_out.LeftOut.{LeftOut}
-use Rattle.otel_otlp_read.specs.Reading.{◌>>=◌, joined, only}
-use Rattle.otel_otlp_read.specs.Kept.{Kept, kept_of, none_kept}
-use Rattle.otel_otlp_read.specs.Members.{given, list_of, object_or, or_default, text_of}
-use Rattle.otel_otlp_read.specs.AnyValue.{shown_value}
-use Rattle.otel_otlp_read.specs.SpanParts.{PlainReadSpan, span_in}
+use Rattle.otel_otlp_read.specs.Reading.{◌>>=◌}
+use Rattle.otel_otlp_read.specs.Kept.{Kept, and_kept, kept_by, of_part}
+use Rattle.otel_otlp_read.specs.Members.{given, list_of, object_or, own_name}
+use Rattle.otel_otlp_read.specs.Services.{first_or_empty, service_member}
+use Rattle.otel_otlp_read.specs.SpanParts.{span_in}
 
--- the text of the value of an attribute, empty where it has none
-abbrev pub value_member : Json → Result (List ℕ) Fault
-value_member j = or_default [] (shown_value 64 false) (given (codes "value") j)
+-- a span of a list, by its number there
+abbrev pub span_at : List ℕ → ItemList → ℕ → Json → Kept PlainShownSpan
+span_at service list n j =
+    of_part (record { list = list; number = n })
+    (span_in service j >>= λ read. Ok (record { kept = read.span ∷ []; left_out = read.left_out }))
 
--- a list of what is there
-abbrev pub list_of_option : {A : Type 0} → Option A → List A
-list_of_option None = []
-list_of_option (Some x) = x ∷ []
-
--- the name that an attribute gives the service, if it has that key; it does not read where its key does not, or where
--- it has that key and its value does not
-unfoldable pub named_in : Json → Result (List (List ℕ)) Fault
-named_in j = do
-  _ ← object_or faults.AttributeType j
-  key ← text_of (codes "key") faults.KeyType j
-  if bytes_eq key (codes "service.name") then only (value_member j) else Ok []
-
--- the names of the service that a resource gives, the one of this number
-unfoldable pub service_in : ℕ → Json → Result (Kept (List ℕ)) Fault
-service_in n j = do
-  _ ← object_or faults.ResourceType j
-  kept_of named_in (lists.ResourceAttributes n) (codes "attributes") faults.AttributesType j
-
-abbrev pub service_member : ℕ → Json → Result (Kept (List ℕ)) Fault
-service_member n j = or_default none_kept (service_in n) (given (codes "resource") j)
-
--- the first one, empty where there is none
-abbrev pub first_or_empty : List (List ℕ) → List ℕ
-first_or_empty [] = []
-first_or_empty (name ∷ names) = name
-
--- the spans of one scope
-unfoldable pub scope_spans_in : List ℕ → Json → Result (List PlainReadSpan) Fault
-scope_spans_in service j = do
+-- the items of a scope that are its spans
+unfoldable pub scope_items : Json → Result (List Json) Fault
+scope_items j = do
   _ ← object_or faults.ScopeSpansItem j
-  items ← list_of (codes "spans") faults.SpansType j
-  joined (λ item. only (span_in service item)) items
+  list_of (codes "spans") faults.SpansType j
 
--- names that older versions, and writers by protobuf's own names, have in the place of `scopeSpans`
+-- the spans of one scope of a resource, by both numbers
+unfoldable pub scope_spans_in : List ℕ → ℕ → ℕ → Json → Kept PlainShownSpan
+scope_spans_in service resource n j =
+    of_part (record { list = lists.ScopeSpans resource; number = n })
+    (scope_items j >>= λ items. Ok (kept_by (span_at service (lists.Spans resource n)) 1 items))
+
+-- the name that older versions have in the place of `scopeSpans`
 unfoldable pub is_misnamed : Json → Bool
-is_misnamed j =
-    is_some (given (codes "scope_spans") j) || is_some (given (codes "instrumentationLibrarySpans") j)
-    || is_some (given (codes "instrumentation_library_spans") j)
+is_misnamed j = is_some (given (codes "instrumentationLibrarySpans") j)
 
 abbrev pub well_named : Json → Result (Unit {0}) Fault
 well_named j = if is_misnamed j then Err faults.ScopeSpansName else Ok tt
 
--- the spans of a resource, and which of its attributes were left out
-pub record PlainReadResource : Type 0 where
-  pub spans : List PlainReadSpan
-  pub left_out : List LeftOut
-
--- the spans of one resource, the one of this number, under the first name that it gives the service
-unfoldable pub resource_spans_in : ℕ → Json → Result PlainReadResource Fault
-resource_spans_in n j = do
+-- the items of a resource that are its scopes
+unfoldable pub resource_items : Json → Result (List Json) Fault
+resource_items j = do
   _ ← object_or faults.ResourceSpansItem j
   _ ← well_named j
-  names ← service_member n j
-  items ← list_of (codes "scopeSpans") faults.ScopeSpansType j
-  spans ← joined (scope_spans_in (first_or_empty names.kept)) items
-  Ok (record { spans = spans; left_out = names.left_out })
+  list_of (codes "scopeSpans") faults.ScopeSpansType j
 
--- values by their numbers, of which the first has this one
-abbrev pub numbered : {A : Type 0} → ℕ → List A → List (ℕ × A)
-numbered n [] = []
-numbered n (x ∷ xs) = (n, x) ∷ numbered (n + 1) xs
+-- the spans of scopes, under the first of these names of the service
+abbrev pub scopes_in : Kept (List ℕ) → ℕ → List Json → Kept PlainShownSpan
+scopes_in names n items =
+    and_kept (record { kept = []; left_out = names.left_out }) (kept_by (scope_spans_in (first_or_empty names.kept) n) 1 items)
+
+-- the spans of one resource, the one of this number
+unfoldable pub resource_spans_in : ℕ → Json → Kept PlainShownSpan
+resource_spans_in n j =
+    of_part (record { list = lists.ResourceSpans; number = n })
+    (resource_items j >>= λ items. Ok (scopes_in (service_member n j) n items))
 
 -- an object that says nothing
 abbrev pub is_empty_object : Json → Bool
@@ -98,22 +74,46 @@ is_empty_object (array _) = false
 is_empty_object (object no_members) = true
 is_empty_object (object (member name j others)) = false
 
--- a request says nothing, or says spans, or what another signal says
-unfoldable pub is_request : Json → Bool
-is_request j =
-    is_empty_object j || is_some (get (codes "resourceSpans") j) || is_some (get (codes "resourceMetrics") j)
-    || is_some (get (codes "resourceLogs") j) || is_some (get (codes "resourceProfiles") j)
+-- whether an object has a member of a name, or of protobuf's own for it, also one that is null
+unfoldable pub has : List ℕ → Json → Bool
+has name j = is_some (get name j) || is_some (option_and_then (λ own. get own j) (own_name name))
+
+-- what is said of a resource, spans or what another signal says, without a request around it
+unfoldable pub is_resource : Json → Bool
+is_resource j =
+    has (codes "scopeSpans") j || has (codes "scopeMetrics") j || has (codes "scopeLogs") j
+    || has (codes "scopeProfiles") j
+
+-- the same of resources
+unfoldable pub are_resources : Json → Bool
+are_resources j =
+    has (codes "resourceSpans") j || has (codes "resourceMetrics") j || has (codes "resourceLogs") j
+    || has (codes "resourceProfiles") j
+
+-- a request says nothing, or something of resources, or of one alone
+abbrev pub is_request : Json → Bool
+is_request j = is_empty_object j || (are_resources j || is_resource j)
 
 abbrev pub known_request : Json → Result (Unit {0}) Fault
 known_request j = if is_request j then Ok tt else Err faults.ResourceSpansMissing
 
--- the spans of a request, resource by resource, none where it says nothing of spans
-unfoldable pub read_request : Json → Result (List PlainReadResource) Fault
+-- a resource that stands alone, as logging exporters write it
+abbrev pub alone_in : Json → List Json
+alone_in j = if has (codes "scopeSpans") j then j ∷ [] else []
+
+-- the resources of a request, or the one that stands alone
+unfoldable pub resources_in : Json → Result (List Json) Fault
+resources_in j =
+    if has (codes "resourceSpans") j then list_of (codes "resourceSpans") faults.ResourceSpansType j
+    else Ok (alone_in j)
+
+-- the spans of a request, as they are shown, none where it says nothing of spans
+unfoldable pub read_request : Json → Result (Kept PlainShownSpan) Fault
 read_request j = do
   _ ← object_or faults.RequestType j
   _ ← known_request j
-  items ← list_of (codes "resourceSpans") faults.ResourceSpansType j
-  joined (λ item. only (resource_spans_in item.0 item.1)) (numbered 1 items)
+  items ← resources_in j
+  Ok (kept_by resource_spans_in 1 items)
 
 -- the name of the service that a resource of ours says: the text of its attribute `service.name`, empty where it has none
 abbrev pub first_named : List (List ℕ × PlainValue) → List ℕ
@@ -124,10 +124,6 @@ first_named (pair ∷ pairs) =
 abbrev pub service_of : PlainResource → List ℕ
 service_of resource = first_named (entries resource.attributes)
 
--- what is read of a span of ours, of a service: all of it
-abbrev pub whole_span : List ℕ → PlainSpanData → PlainReadSpan
-whole_span service span = record { span = shown_span service span; left_out = [] }
-
 -- what is read of a batch of ours: all of it
-abbrev pub whole_batch : PlainResource → List PlainSpanData → PlainReadResource
-whole_batch resource batch = record { spans = map (whole_span (service_of resource)) batch; left_out = [] }
+abbrev pub whole_batch : PlainResource → List PlainSpanData → Kept PlainShownSpan
+whole_batch resource batch = record { kept = map (shown_span (service_of resource)) batch; left_out = [] }

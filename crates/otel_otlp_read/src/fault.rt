@@ -17,7 +17,7 @@ pub enum Fault {
     ResourceSpansType,
     ResourceSpansItem,
     ResourceType,
-    /// `scope_spans`, `instrumentationLibrarySpans` or `instrumentation_library_spans` is there.
+    /// `instrumentationLibrarySpans` is there.
     ScopeSpansName,
     ScopeSpansType,
     ScopeSpansItem,
@@ -64,7 +64,7 @@ impl Fault {
             Fault::ResourceSpansType => "resourceSpans is no list",
             Fault::ResourceSpansItem => "an item of resourceSpans is no object",
             Fault::ResourceType => "a resource is no object",
-            Fault::ScopeSpansName => "scopeSpans has an old name or one of protobuf",
+            Fault::ScopeSpansName => "scopeSpans has an old name",
             Fault::ScopeSpansType => "scopeSpans is no list",
             Fault::ScopeSpansItem => "an item of scopeSpans is no object",
             Fault::SpansType => "spans is no list",

@@ -1,17 +1,15 @@
-//! Whole inputs: a document a line, or one document over many lines.
+//! Whole inputs: a document a line, or documents that are laid out over lines.
 
-ghost use Rattle.std.specs.Prelude.{◌≡◌, ◌+◌, ◌++◌, ◌^◌, ◌<◌, ◌≤◌, IfOk, OnOk, map};
-ghost use Rattle.std.specs.List.{flat_map};
-ghost use Rattle.otel_otlp_read.specs.Inputs.{begins_with_json, document_faults, is_json, left_fault, left_faults};
-ghost use Rattle.otel_otlp_read.specs.Inputs.{of_document, one_if_spanless, read_document, read_input, read_lines};
-ghost use Rattle.otel_otlp_read.specs.Inputs.{resource_faults, resource_shown, text_lines};
+ghost use Rattle.std.specs.Prelude.{◌≡◌, ◌+◌, ◌++◌, ◌^◌, ◌<◌, ◌≤◌, IfOk, OnOk, length, map};
+ghost use Rattle.otel_otlp_read.specs.Cuts.{parts, without_mark};
+ghost use Rattle.otel_otlp_read.specs.Inputs.{begins_with_json, is_json, left_fault, of_document, one_if_spanless};
+ghost use Rattle.otel_otlp_read.specs.Inputs.{read_document, read_input, read_lines, read_part, read_parts};
+ghost use Rattle.otel_otlp_read.specs.Inputs.{read_unmarked, text_lines};
 
 use crate::document::read_document;
 use crate::fault::{Fault, ReadError};
 use crate::left_out::{ItemPlace, LeftOut};
-use crate::lines::{first_line, is_blank};
-use crate::request::ReadResource;
-use crate::span::ReadSpan;
+use crate::lines::{first_line, first_part, is_blank, line_count};
 use json::{Scratch, is_valid};
 use otel_shown::ShownSpan;
 use std::alloc::{AllocError, Global};
@@ -25,8 +23,8 @@ pub struct LineFault {
     pub fault: Fault,
 }
 
-/// What an input holds: the spans of all its documents that read, in order; the other documents by their lines, and the
-/// attributes and events that were left out; and how many requests had no spans.
+/// What an input holds: the spans of all its documents, in order; the documents that do not read, by their lines, and
+/// the parts of others that were left out; and how many requests had no spans.
 #[derive(Debug, Drop)]
 pub struct ReadText {
     pub spans: Vec<ShownSpan>,
@@ -52,64 +50,18 @@ fn push_left_out(
     Ok(())
 }
 
-/// Appends spans of a document that begins in a line, and names what was left out of them.
-fn push_spans(
-    spans: &mut Vec<ShownSpan>,
-    faults: &mut Vec<LineFault>,
-    line: u64,
-    reads: Vec<ReadSpan>,
-) -> Result<(), AllocError>
-    ensures spans { OnOk result (spans.new.items ≡ spans.old.items ++ map (λ read. read.span) reads.items) }
-    ensures faults { OnOk result (faults.new.items ≡ faults.old.items ++ flat_map (left_faults line) reads.items) }
-{
-    for ReadSpan { span, left_out } in reads {
-        push_left_out(faults, line, &left_out)?;
-        spans.push(span)?;
-    }
-    Ok(())
-}
-
-/// Appends the spans of a resource, and names what was left out of it and of them.
-fn push_resource(
-    spans: &mut Vec<ShownSpan>,
-    faults: &mut Vec<LineFault>,
-    line: u64,
-    read: ReadResource,
-) -> Result<(), AllocError>
-    ensures spans { OnOk result (spans.new.items ≡ spans.old.items ++ resource_shown read) }
-    ensures faults { OnOk result (faults.new.items ≡ faults.old.items ++ resource_faults line read) }
-{
-    push_left_out(faults, line, &read.left_out)?;
-    push_spans(spans, faults, line, read.spans)
-}
-
-/// Appends the spans of resources, and names what was left out of them.
-fn push_resources(
-    spans: &mut Vec<ShownSpan>,
-    faults: &mut Vec<LineFault>,
-    line: u64,
-    reads: Vec<ReadResource>,
-) -> Result<(), AllocError>
-    ensures spans { OnOk result (spans.new.items ≡ spans.old.items ++ flat_map resource_shown reads.items) }
-    ensures faults { OnOk result (faults.new.items ≡ faults.old.items ++ document_faults line reads.items) }
-{
-    for read in reads {
-        push_resource(spans, faults, line, read)?;
-    }
-    Ok(())
-}
-
-/// 1 where no resource has a span.
-fn one_if_spanless(reads: &[ReadResource]) -> u64
-    ensures is { result ≡ one_if_spanless reads.now }
+/// 1 where there is no span, and nothing was left out.
+fn one_if_spanless(spans: &[ShownSpan], left_out: &[LeftOut]) -> u64
+    ensures is { result ≡ one_if_spanless spans.now left_out.now }
     ensures small { result ≤ 1 }
 {
-    for read in reads {
-        if !read.spans.is_empty() {
-            return 0;
-        }
+    match left_out {
+        [] => match spans {
+            [] => 1,
+            [_, ..] => 0,
+        },
+        [_, ..] => 0,
     }
-    1
 }
 
 impl Model for ReadText {
@@ -150,9 +102,10 @@ impl ReadText {
         ensures { OnOk result (self.new ≡ and_read self.old (of_document number (read_document text.now))) }
     {
         match read_document(alloc, text, scratch) {
-            Ok(reads) => {
-                self.spanless += one_if_spanless(&reads);
-                push_resources(&mut self.spans, &mut self.faults, number, reads)
+            Ok(mut read) => {
+                self.spanless += one_if_spanless(&read.spans, &read.left_out);
+                push_left_out(&mut self.faults, number, &read.left_out)?;
+                self.spans.append(&mut read.spans)
             }
             Err(ReadError::Fault(fault)) => {
                 self.faults.push(LineFault {
@@ -164,6 +117,50 @@ impl ReadText {
             }
             Err(ReadError::OutOfMemory) => Err(AllocError),
         }
+    }
+
+    /// Appends what is read of each line that is not blank, of which the first has this number.
+    fn add_lines(
+        &mut self,
+        alloc: Global,
+        first: u64,
+        text: &[u8],
+        scratch: &mut Scratch,
+    ) -> Result<(), AllocError>
+        requires room { self.old.spanless + length text.now + 1 < 2 ^ 64 }
+        requires few { first + length text.now + 1 < 2 ^ 64 }
+        ensures { OnOk result (self.new ≡ and_read self.old (read_lines first (text_lines text.now))) }
+    {
+        let mut number = first;
+        let mut left = Some(text);
+        while let Some(rest) = left {
+            let (line, after) = first_line(rest);
+            if !is_blank(line) {
+                self.add(alloc, number, line, scratch)?;
+            }
+            number += 1;
+            left = after;
+        }
+        Ok(())
+    }
+
+    /// Appends what is read of a part that begins in a line.
+    #[tactic(auto, unfolding(crate::specs::Inputs::read_part))]
+    fn add_part(
+        &mut self,
+        alloc: Global,
+        number: u64,
+        text: &[u8],
+        scratch: &mut Scratch,
+    ) -> Result<(), AllocError>
+        requires room { self.old.spanless + length text.now + 1 < 2 ^ 64 }
+        requires few { number + length text.now + 1 < 2 ^ 64 }
+        ensures { OnOk result (self.new ≡ and_read self.old (read_part number text.now)) }
+    {
+        if begins_with_json(text, scratch)? || !is_json(text, scratch)? {
+            return self.add_lines(alloc, number, text, scratch);
+        }
+        self.add(alloc, number, text, scratch)
     }
 }
 
@@ -192,43 +189,64 @@ fn begins_with_json(text: &[u8], scratch: &mut Scratch) -> Result<bool, AllocErr
     Ok(true)
 }
 
-/// Reads each line that is not blank as a document.
-fn read_lines(alloc: Global, text: &[u8], scratch: &mut Scratch) -> Result<ReadText, AllocError>
-    ensures { IfOk result (λ read. read ≡ read_lines 1 (text_lines text.now)) }
+/// Reads the parts of a text.
+fn read_parts(alloc: Global, text: &[u8], scratch: &mut Scratch) -> Result<ReadText, AllocError>
+    ensures { IfOk result (λ read. read ≡ read_parts 1 (parts text.now)) }
 {
     let mut read = ReadText::new(alloc);
     let mut number: u64 = 1;
     let mut left = Some(text);
     while let Some(rest) = left {
-        let (line, after) = first_line(rest);
-        if !is_blank(line) {
-            read.add(alloc, number, line, scratch)?;
-        }
-        number += 1;
+        let (part, after) = first_part(rest);
+        read.add_part(alloc, number, part, scratch)?;
+        number += line_count(part);
         left = after;
     }
     Ok(read)
 }
 
-/// Reads a text as one document.
+/// Reads a text as one part.
 fn read_whole(alloc: Global, text: &[u8], scratch: &mut Scratch) -> Result<ReadText, AllocError>
-    ensures { IfOk result (λ read. read ≡ of_document 1 (read_document text.now)) }
+    ensures { IfOk result (λ read. read ≡ read_part 1 text.now) }
 {
     let mut read = ReadText::new(alloc);
-    read.add(alloc, 1, text, scratch)?;
+    read.add_part(alloc, 1, text, scratch)?;
     Ok(read)
 }
 
+/// Reads an input without a mark in front of it.
+#[tactic(auto, unfolding(crate::specs::Inputs::read_unmarked))]
+fn read_unmarked(alloc: Global, text: &[u8], scratch: &mut Scratch) -> Result<ReadText, AllocError>
+    ensures { IfOk result (λ read. read ≡ read_unmarked text.now) }
+{
+    if begins_with_json(text, scratch)? || is_json(text, scratch)? {
+        return read_whole(alloc, text, scratch);
+    }
+    read_parts(alloc, text, scratch)
+}
+
+/// The bytes that may stand in front of a text, to say that it is UTF-8.
+const MARK: [u8; 3] = [0xef, 0xbb, 0xbf];
+
+/// A text without these.
+fn without_mark(text: &[u8]) -> &[u8]
+    ensures { result.now ≡ without_mark text.now }
+{
+    if text.starts_with(&MARK) {
+        &text[3..]
+    } else {
+        text
+    }
+}
+
 /// Reads an input: each line that is not blank is a document, lines counted from 1. Where the first such line is no
-/// JSON, and the text as a whole is, it is that one document, as a file that is laid out for people. A line that does
-/// not read is named, as is an attribute or an event, and the spans of all others are there. Requests without spans, as
-/// those of metrics and logs, are counted. Fails only where memory runs out.
+/// JSON, the text as a whole may be one document, or each part of it that begins with a brace at the front of a line,
+/// as in a file that is laid out for people. What does not read is named with its line, and all else is there.
+/// Requests without spans, as those of metrics and logs, are counted. Fails only where memory runs out.
+#[tactic(auto, unfolding(crate::specs::Inputs::read_input))]
 pub fn read_text(alloc: Global, text: &[u8]) -> Result<ReadText, AllocError>
     ensures { IfOk result (λ read. read ≡ read_input text.now) }
 {
     let mut scratch = Scratch::new(alloc);
-    if begins_with_json(text, &mut scratch)? || !is_json(text, &mut scratch)? {
-        return read_lines(alloc, text, &mut scratch);
-    }
-    read_whole(alloc, text, &mut scratch)
+    read_unmarked(alloc, without_mark(text), &mut scratch)
 }

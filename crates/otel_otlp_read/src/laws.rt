@@ -1,6 +1,6 @@
 //! The laws of reading, over the definitions alone. Each function does nothing; its contract is the law, for all values.
 
-ghost use Rattle.std.specs.Prelude.{◌≡◌, ◌∷◌, List, Ok, [], map};
+ghost use Rattle.std.specs.Prelude.{◌≡◌, List, Ok, [], map};
 ghost use Rattle.std.specs.List.{AllByRecursion};
 ghost use Rattle.std.specs.Str.{IsUtf8};
 ghost use Rattle.otel_resource.specs.Resource.{PlainResource};
@@ -19,10 +19,10 @@ use otel_otlp::laws::{lines_are_cut, lines_read_back, runs_join};
 pub fn what_is_written_is_read()
     ensures request { (resource : PlainResource) (batch : List PlainSpanData)
         → ResourceFits resource → AllByRecursion SpanFits batch
-        → read_request (request resource batch) ≡ Ok (whole_batch resource batch ∷ []) }
+        → read_request (request resource batch) ≡ Ok (whole_batch resource batch) }
     ensures text { (resource : PlainResource) (batch : List PlainSpanData)
         → ResourceFits resource → AllByRecursion SpanFits batch → IsUtf8 (otlp_text resource batch)
-        → read_document (otlp_text resource batch) ≡ Ok (whole_batch resource batch ∷ []) }
+        → read_document (otlp_text resource batch) ≡ Ok (whole_batch resource batch) }
 {
     runs_join();
     lines_read_back();

@@ -3,11 +3,20 @@
 use crate::fault::Fault;
 use opentelemetry::SpanId;
 
-/// A list of which an item that does not read is left out.
+/// A list of which an item that does not read is left out. A resource is known by the number of its item in
+/// `resourceSpans`, a scope by that of its own in `scopeSpans`, each from 1.
 #[derive(Clone, Copy, Debug, PartialEq, Eq)]
 pub enum ItemList {
-    /// The attributes of a resource, by the number of its item in `resourceSpans`, from 1.
+    /// The items of `resourceSpans`, with all their spans.
+    ResourceSpans,
+    /// The members `resource` of these alone.
+    Resources,
+    /// The attributes of a resource.
     ResourceAttributes(u64),
+    /// The items of `scopeSpans` of a resource.
+    ScopeSpans(u64),
+    /// The spans of a resource and a scope of it.
+    Spans(u64, u64),
     SpanAttributes(SpanId),
     SpanEvents(SpanId),
     SpanLinks(SpanId),

@@ -27,5 +27,4 @@ pub use document::read_document;
 pub use fault::{Fault, ReadError};
 pub use input::{LineFault, ReadText, read_text};
 pub use left_out::{ItemList, ItemPlace, LeftOut};
-pub use request::{ReadResource, read_request};
-pub use span::ReadSpan;
+pub use request::{ReadSpans, read_request};

@@ -1,23 +1,68 @@
-//! The members of an object by the rules of protobuf's JSON: null stands for a member that is not there, and of a name
-//! that comes twice the last member counts.
+//! The members of an object by the rules of protobuf's JSON: null stands for a member that is not there, of a name that
+//! comes twice the last member counts, and a member may have the name that protobuf itself gives it.
 
 ghost use Rattle.std.specs.Prelude.{◌≡◌, [], map, option_map};
 ghost use Rattle.json.specs.Find.{as_array};
 ghost use Rattle.json.specs.Value.{value_view};
-ghost use Rattle.otel_otlp_read.specs.Members.{given, list_of, listed, object_or, text_of};
+ghost use Rattle.otel_otlp_read.specs.Members.{given, list_of, listed, named, object_or, own_name, text_of};
 ghost use Rattle.otel_otlp_read.specs.Reading.{Gives};
 
 use crate::fault::{Fault, ReadError};
 use json::Value;
 use std::slice;
 
+/// What protobuf itself calls a member, where that is not its name in JSON.
+#[tactic(auto, unfolding(crate::specs::Members::own_name))]
+pub(crate) fn own_name(name: &str) -> Option<&'static str>
+    ensures { option_map (λ own. own.now) result ≡ own_name name.now }
+{
+    match name {
+        "traceId" => Some("trace_id"),
+        "spanId" => Some("span_id"),
+        "parentSpanId" => Some("parent_span_id"),
+        "startTimeUnixNano" => Some("start_time_unix_nano"),
+        "endTimeUnixNano" => Some("end_time_unix_nano"),
+        "timeUnixNano" => Some("time_unix_nano"),
+        "resourceSpans" => Some("resource_spans"),
+        "resourceMetrics" => Some("resource_metrics"),
+        "resourceLogs" => Some("resource_logs"),
+        "resourceProfiles" => Some("resource_profiles"),
+        "scopeSpans" => Some("scope_spans"),
+        "scopeMetrics" => Some("scope_metrics"),
+        "scopeLogs" => Some("scope_logs"),
+        "scopeProfiles" => Some("scope_profiles"),
+        "instrumentationLibrarySpans" => Some("instrumentation_library_spans"),
+        "stringValue" => Some("string_value"),
+        "boolValue" => Some("bool_value"),
+        "intValue" => Some("int_value"),
+        "doubleValue" => Some("double_value"),
+        "bytesValue" => Some("bytes_value"),
+        "arrayValue" => Some("array_value"),
+        "kvlistValue" => Some("kvlist_value"),
+        _ => None,
+    }
+}
+
 /// The member of a name; none where it is missing or null.
-pub(crate) fn given<'v, 'a>(object: &'v Value<'a>, name: &str) -> Option<&'v Value<'a>>
-    ensures { option_map (λ v. value_view v.now) result ≡ given name.now (value_view object.now) }
+fn named<'v, 'a>(object: &'v Value<'a>, name: &str) -> Option<&'v Value<'a>>
+    ensures { option_map (λ v. value_view v.now) result ≡ named name.now (value_view object.now) }
 {
     match object.get(name) {
         Some(member) => { if member.is_null() { None } else { Some(member) } }
         None => None,
+    }
+}
+
+/// The member of a name, or of protobuf's own for it; none where both are missing or null.
+pub(crate) fn given<'v, 'a>(object: &'v Value<'a>, name: &str) -> Option<&'v Value<'a>>
+    ensures { option_map (λ v. value_view v.now) result ≡ given name.now (value_view object.now) }
+{
+    match named(object, name) {
+        Some(member) => Some(member),
+        None => match own_name(name) {
+            Some(own) => named(object, own),
+            None => None,
+        },
     }
 }
 

@@ -190,11 +190,11 @@ fn parent_number(bytes: &[u8]) -> Option<u64>
     }
 }
 
-/// The id of a span's parent, zero where it has none.
-pub(crate) fn parent_span_id(span: &Value) -> Result<SpanId, ReadError>
-    ensures { Gives (λ id. id) result (parent_of (codes "parentSpanId") (value_view span.now)) }
+/// The id of a parent, zero where it is missing.
+fn parent(object: &Value, name: &str) -> Result<SpanId, ReadError>
+    ensures { Gives (λ id. id) result (parent_of name.now (value_view object.now)) }
 {
-    let Some(member) = given(span, "parentSpanId") else {
+    let Some(member) = given(object, name) else {
         return Ok(SpanId::INVALID);
     };
     let Some(text) = member.as_str() else {
@@ -204,4 +204,11 @@ pub(crate) fn parent_span_id(span: &Value) -> Result<SpanId, ReadError>
         Some(number) => Ok(SpanId::from(number)),
         None => Err(ReadError::Fault(Fault::ParentForm)),
     }
+}
+
+/// The id of a span's parent, zero where it has none.
+pub(crate) fn parent_span_id(span: &Value) -> Result<SpanId, ReadError>
+    ensures { Gives (λ id. id) result (parent_of (codes "parentSpanId") (value_view span.now)) }
+{
+    parent(span, "parentSpanId")
 }

@@ -1,94 +1,166 @@
-//! The spans of a request: of each resource, of each of its scopes, in order; and what was left out of resources.
+//! The spans of a request: of each resource, of each of its scopes, in order. What of it does not read is left out, and
+//! named by its place.
 
-ghost use Rattle.std.specs.Prelude.{◌≡◌, is_some, map};
-ghost use Rattle.json.specs.Find.{get};
+ghost use Rattle.std.specs.Prelude.{◌≡◌, IfOk, OnOk, map};
 ghost use Rattle.json.specs.Value.{value_view};
-ghost use Rattle.otel_otlp_read.specs.Reading.{Gives, grown, joined, only};
-ghost use Rattle.otel_otlp_read.specs.Requests.{is_empty_object, is_misnamed, is_request, known_request, read_request};
-ghost use Rattle.otel_otlp_read.specs.Requests.{numbered, resource_spans_in, scope_spans_in, well_named};
-ghost use Rattle.otel_otlp_read.specs.SpanParts.{span_in};
+ghost use Rattle.otel_otlp_read.specs.declared.left_out.ItemList.TheVariants.{Spans};
+ghost use Rattle.otel_otlp_read.specs.Kept.{and_kept, kept_by, left, none_kept};
+ghost use Rattle.otel_otlp_read.specs.Reading.{Gives};
+ghost use Rattle.otel_otlp_read.specs.Requests.{alone_in, are_resources, has, is_empty_object, is_misnamed, is_request};
+ghost use Rattle.otel_otlp_read.specs.Requests.{is_resource, known_request, read_request, resource_items};
+ghost use Rattle.otel_otlp_read.specs.Requests.{resource_spans_in, resources_in, scope_items, scope_spans_in, scopes_in};
+ghost use Rattle.otel_otlp_read.specs.Requests.{span_at, well_named};
 
 use crate::fault::{Fault, ReadError};
-use crate::left_out::LeftOut;
-use crate::member::{given, list, object};
-use crate::service::service;
-use crate::span::{ReadSpan, span};
+use crate::left_out::{ItemList, ItemPlace, LeftOut};
+use crate::member::{given, list, object, own_name};
+use crate::service::{ReadNames, service};
+use crate::span::span;
 use json::Value;
-use std::alloc::Global;
+use otel_shown::ShownSpan;
+use std::alloc::{AllocError, Global};
 use std::marker::Model;
+use std::slice;
 
-/// The spans of a resource, and which of its attributes do not read.
+/// The spans of a request, and what of it does not read.
 #[derive(Debug, Drop)]
-pub struct ReadResource {
-    pub spans: Vec<ReadSpan>,
+pub struct ReadSpans {
+    pub spans: Vec<ShownSpan>,
     pub left_out: Vec<LeftOut>,
 }
 
-impl Model for ReadResource {
-    ghost use Rattle.otel_otlp_read.specs.Requests.{PlainReadResource};
+impl Model for ReadSpans {
+    ghost use Rattle.otel_shown.specs.Shown.{PlainShownSpan};
+    ghost use Rattle.otel_otlp_read.specs.Kept.{Kept};
 
-    ghost Value = { PlainReadResource };
+    ghost Value = { Kept PlainShownSpan };
 
-    ghost view = { λ read. record { spans = read.spans.items; left_out = read.left_out.items } };
+    ghost view = { λ read. record { kept = read.spans.items; left_out = read.left_out.items } };
 }
 
-/// Appends spans of a service. On an error some of them may stand there, as with the functions below.
+impl ReadSpans {
+    /// None.
+    fn new(alloc: Global) -> ReadSpans
+        ensures { result ≡ none_kept }
+    {
+        ReadSpans {
+            spans: Vec::new(alloc),
+            left_out: Vec::new(alloc),
+        }
+    }
+
+    /// Names an item that does not read.
+    fn leave_out(&mut self, item: ItemPlace, fault: Fault) -> Result<(), AllocError>
+        ensures { OnOk result (self.new ≡ and_kept self.old (left item fault)) }
+    {
+        self.left_out.push(LeftOut { item, fault })?;
+        Ok(())
+    }
+}
+
+/// Appends the span at a place.
+fn push_span(
+    alloc: Global,
+    out: &mut ReadSpans,
+    service: &str,
+    item: ItemPlace,
+    value: &Value,
+) -> Result<(), AllocError>
+    ensures { OnOk result (out.new
+        ≡ and_kept out.old (span_at service.now item.list item.number (value_view value.now))) }
+{
+    match span(alloc, service, value) {
+        Ok(read) => {
+            out.left_out.extend_from_slice(&read.left_out)?;
+            out.spans.push(read.span)?;
+            Ok(())
+        }
+        Err(ReadError::Fault(fault)) => out.leave_out(item, fault),
+        Err(ReadError::OutOfMemory) => Err(AllocError),
+    }
+}
+
+/// Which scope of which resource, by their numbers.
+#[derive(Clone, Copy)]
+struct ScopePlace {
+    resource: u64,
+    scope: u64,
+}
+
+/// Appends the spans of a list.
 fn push_spans(
     alloc: Global,
-    out: &mut Vec<ReadSpan>,
+    out: &mut ReadSpans,
     service: &str,
+    scope: ScopePlace,
     items: &[Value],
-) -> Result<(), ReadError>
-    ensures { Gives (λ _. out.new.items) result (grown out.old.items
-        (joined (λ item. only (span_in service.now item)) (map value_view items.now))) }
+) -> Result<(), AllocError>
+    ensures { OnOk result (out.new ≡ and_kept out.old
+        (kept_by (span_at service.now (Spans scope.resource scope.scope)) 1 (map value_view items.now))) }
 {
-    for item in items {
-        let span = span(alloc, service, item)?;
-        out.push(span)?;
+    for (place, item) in items.iter().enumerate() {
+        let list = ItemList::Spans(scope.resource, scope.scope);
+        let number = place as u64 + 1;
+        push_span(alloc, out, service, ItemPlace { list, number }, item)?;
     }
     Ok(())
+}
+
+/// The spans of a scope, as they stand.
+#[tactic(auto, unfolding(crate::specs::Requests::scope_items))]
+fn scope_items<'v, 'a>(scope: &'v Value<'a>) -> Result<&'v [Value<'a>], ReadError>
+    ensures { Gives (λ items. map value_view items.now) result (scope_items (value_view scope.now)) }
+{
+    object(scope, Fault::ScopeSpansItem)?;
+    list(scope, "spans", Fault::SpansType)
 }
 
 /// Appends the spans of a scope.
 #[tactic(auto, unfolding(crate::specs::Requests::scope_spans_in))]
 fn push_scope(
     alloc: Global,
-    out: &mut Vec<ReadSpan>,
+    out: &mut ReadSpans,
     service: &str,
+    place: ScopePlace,
     scope: &Value,
-) -> Result<(), ReadError>
-    ensures { Gives (λ _. out.new.items) result
-        (grown out.old.items (scope_spans_in service.now (value_view scope.now))) }
+) -> Result<(), AllocError>
+    ensures { OnOk result (out.new
+        ≡ and_kept out.old (scope_spans_in service.now place.resource place.scope (value_view scope.now))) }
 {
-    object(scope, Fault::ScopeSpansItem)?;
-    let items = list(scope, "spans", Fault::SpansType)?;
-    push_spans(alloc, out, service, items)
+    match scope_items(scope) {
+        Ok(items) => push_spans(alloc, out, service, place, items),
+        Err(ReadError::Fault(fault)) => {
+            let list = ItemList::ScopeSpans(place.resource);
+            let number = place.scope;
+            out.leave_out(ItemPlace { list, number }, fault)
+        }
+        Err(ReadError::OutOfMemory) => Err(AllocError),
+    }
 }
 
-/// Appends the spans of scopes.
+/// Appends the spans of the scopes of a resource.
 fn push_scopes(
     alloc: Global,
-    out: &mut Vec<ReadSpan>,
+    out: &mut ReadSpans,
     service: &str,
+    resource: u64,
     items: &[Value],
-) -> Result<(), ReadError>
-    ensures { Gives (λ _. out.new.items) result
-        (grown out.old.items (joined (scope_spans_in service.now) (map value_view items.now))) }
+) -> Result<(), AllocError>
+    ensures { OnOk result (out.new
+        ≡ and_kept out.old (kept_by (scope_spans_in service.now resource) 1 (map value_view items.now))) }
 {
-    for item in items {
-        push_scope(alloc, out, service, item)?;
+    for (place, item) in items.iter().enumerate() {
+        let scope = place as u64 + 1;
+        push_scope(alloc, out, service, ScopePlace { resource, scope }, item)?;
     }
     Ok(())
 }
 
-/// Whether `scopeSpans` has a name that older versions, or protobuf itself, give it.
-#[tactic(auto, unfolding(crate::specs::Requests::is_misnamed))]
+/// Whether `scopeSpans` has the name that older versions give it.
 fn is_misnamed(resource_spans: &Value) -> bool
     ensures { result ≡ is_misnamed (value_view resource_spans.now) }
 {
-    given(resource_spans, "scope_spans").is_some()
-        || given(resource_spans, "instrumentationLibrarySpans").is_some()
-        || given(resource_spans, "instrumentation_library_spans").is_some()
+    given(resource_spans, "instrumentationLibrarySpans").is_some()
 }
 
 /// Refuses such a name.
@@ -101,30 +173,63 @@ fn well_named(resource_spans: &Value) -> Result<(), ReadError>
     Ok(())
 }
 
-/// The spans of a resource, the one of this number.
-#[tactic(auto, unfolding(crate::specs::Requests::resource_spans_in))]
-fn resource_spans(alloc: Global, number: u64, resource: &Value) -> Result<ReadResource, ReadError>
-    ensures { Gives (λ read. read) result (resource_spans_in number (value_view resource.now)) }
+/// The scopes of a resource, as they stand.
+#[tactic(auto, unfolding(crate::specs::Requests::resource_items))]
+fn resource_items<'v, 'a>(resource_spans: &'v Value<'a>) -> Result<&'v [Value<'a>], ReadError>
+    ensures { Gives (λ items. map value_view items.now) result
+        (resource_items (value_view resource_spans.now)) }
 {
-    object(resource, Fault::ResourceSpansItem)?;
-    well_named(resource)?;
-    let names = service(alloc, number, resource)?;
-    let items = list(resource, "scopeSpans", Fault::ScopeSpansType)?;
-    let mut spans = Vec::new(alloc);
-    push_scopes(alloc, &mut spans, names.first(), items)?;
-    let left_out = names.left_out;
-    Ok(ReadResource { spans, left_out })
+    object(resource_spans, Fault::ResourceSpansItem)?;
+    well_named(resource_spans)?;
+    list(resource_spans, "scopeSpans", Fault::ScopeSpansType)
+}
+
+/// Appends the spans of scopes, under the first of these names of the service.
+fn push_named(
+    alloc: Global,
+    out: &mut ReadSpans,
+    names: &ReadNames,
+    resource: u64,
+    items: &[Value],
+) -> Result<(), AllocError>
+    ensures { OnOk result (out.new
+        ≡ and_kept out.old (scopes_in names.now resource (map value_view items.now))) }
+{
+    out.left_out.extend_from_slice(&names.left_out)?;
+    push_scopes(alloc, out, names.first(), resource, items)
+}
+
+/// Appends the spans of a resource, the one of this number.
+#[tactic(auto, unfolding(crate::specs::Requests::resource_spans_in))]
+fn push_resource(
+    alloc: Global,
+    out: &mut ReadSpans,
+    number: u64,
+    resource_spans: &Value,
+) -> Result<(), AllocError>
+    ensures { OnOk result (out.new
+        ≡ and_kept out.old (resource_spans_in number (value_view resource_spans.now))) }
+{
+    match resource_items(resource_spans) {
+        Ok(items) => {
+            let names = service(alloc, number, resource_spans)?;
+            push_named(alloc, out, &names, number, items)
+        }
+        Err(ReadError::Fault(fault)) => {
+            let list = ItemList::ResourceSpans;
+            out.leave_out(ItemPlace { list, number }, fault)
+        }
+        Err(ReadError::OutOfMemory) => Err(AllocError),
+    }
 }
 
 /// The spans of resources.
-fn each_resource(alloc: Global, items: &[Value]) -> Result<Vec<ReadResource>, ReadError>
-    ensures { Gives (λ read. read.items) result
-        (joined (λ item. only (resource_spans_in item.0 item.1)) (numbered 1 (map value_view items.now))) }
+fn each_resource(alloc: Global, items: &[Value]) -> Result<ReadSpans, AllocError>
+    ensures { IfOk result (λ read. read ≡ kept_by resource_spans_in 1 (map value_view items.now)) }
 {
-    let mut out = Vec::new(alloc);
+    let mut out = ReadSpans::new(alloc);
     for (place, item) in items.iter().enumerate() {
-        let read = resource_spans(alloc, place as u64 + 1, item)?;
-        out.push(read)?;
+        push_resource(alloc, &mut out, place as u64 + 1, item)?;
     }
     Ok(out)
 }
@@ -139,23 +244,47 @@ fn is_empty_object(value: &Value) -> bool
     }
 }
 
-/// Whether an object has a member of a name, also one that is null.
+/// Whether an object has a member of a name, or of protobuf's own for it, also one that is null.
+#[tactic(auto, unfolding(crate::specs::Requests::has))]
 fn has(object: &Value, name: &str) -> bool
-    ensures { result ≡ is_some (get name.now (value_view object.now)) }
+    ensures { result ≡ has name.now (value_view object.now) }
 {
-    object.get(name).is_some()
+    if object.get(name).is_some() {
+        return true;
+    }
+    match own_name(name) {
+        Some(own) => object.get(own).is_some(),
+        None => false,
+    }
 }
 
-/// Whether this is a request: one that says nothing, says spans, or what another signal says.
-#[tactic(auto, unfolding(crate::specs::Requests::is_request))]
-fn is_request(request: &Value) -> bool
-    ensures { result ≡ is_request (value_view request.now) }
+/// Whether this is what is said of a resource, without a request around it.
+#[tactic(auto, unfolding(crate::specs::Requests::is_resource))]
+fn is_resource(request: &Value) -> bool
+    ensures { result ≡ is_resource (value_view request.now) }
 {
-    is_empty_object(request)
-        || has(request, "resourceSpans")
+    has(request, "scopeSpans")
+        || has(request, "scopeMetrics")
+        || has(request, "scopeLogs")
+        || has(request, "scopeProfiles")
+}
+
+/// The same of resources.
+#[tactic(auto, unfolding(crate::specs::Requests::are_resources))]
+fn are_resources(request: &Value) -> bool
+    ensures { result ≡ are_resources (value_view request.now) }
+{
+    has(request, "resourceSpans")
         || has(request, "resourceMetrics")
         || has(request, "resourceLogs")
         || has(request, "resourceProfiles")
+}
+
+/// Whether this is a request: one that says nothing, or something of resources, or of one alone.
+fn is_request(request: &Value) -> bool
+    ensures { result ≡ is_request (value_view request.now) }
+{
+    is_empty_object(request) || are_resources(request) || is_resource(request)
 }
 
 /// Refuses what is no request.
@@ -168,14 +297,37 @@ fn known_request(request: &Value) -> Result<(), ReadError>
     Err(ReadError::Fault(Fault::ResourceSpansMissing))
 }
 
-/// The spans of an `ExportTraceServiceRequest`, resource by resource; none where it says nothing of spans, as those of
-/// metrics and logs. An error is its first fault, or that memory ran out.
+/// A resource that stands alone, as logging exporters write it.
+fn alone_in<'v, 'a>(request: &'v Value<'a>) -> &'v [Value<'a>]
+    ensures { map value_view result.now ≡ alone_in (value_view request.now) }
+{
+    let alone = slice::from_ref(request);
+    if has(request, "scopeSpans") {
+        alone
+    } else {
+        &alone[..0]
+    }
+}
+
+/// The resources of a request, as they stand, or the one that stands alone.
+fn resources_in<'v, 'a>(request: &'v Value<'a>) -> Result<&'v [Value<'a>], ReadError>
+    ensures { Gives (λ items. map value_view items.now) result (resources_in (value_view request.now)) }
+{
+    if has(request, "resourceSpans") {
+        list(request, "resourceSpans", Fault::ResourceSpansType)
+    } else {
+        Ok(alone_in(request))
+    }
+}
+
+/// The spans of an `ExportTraceServiceRequest`, in order; none where it says nothing of spans, as those of metrics and
+/// logs. What of it does not read is left out. An error is why it is no request, or that memory ran out.
 #[tactic(auto, unfolding(crate::specs::Requests::read_request))]
-pub fn read_request(alloc: Global, request: &Value) -> Result<Vec<ReadResource>, ReadError>
-    ensures { Gives (λ read. read.items) result (read_request (value_view request.now)) }
+pub fn read_request(alloc: Global, request: &Value) -> Result<ReadSpans, ReadError>
+    ensures { Gives (λ read. read) result (read_request (value_view request.now)) }
 {
     object(request, Fault::RequestType)?;
     known_request(request)?;
-    let items = list(request, "resourceSpans", Fault::ResourceSpansType)?;
-    each_resource(alloc, items)
+    let items = resources_in(request)?;
+    Ok(each_resource(alloc, items)?)
 }

@@ -3,11 +3,11 @@
 
 ghost use Rattle.std.specs.Prelude.{◌≡◌, IfOk, OnOk, map, option_map, string_bytes};
 ghost use Rattle.json.specs.Value.{value_view};
-ghost use Rattle.otel_otlp_read.specs.declared.left_out.ItemList.TheVariants.{ResourceAttributes};
-ghost use Rattle.otel_otlp_read.specs.Kept.{kept_from, none_kept};
+ghost use Rattle.otel_otlp_read.specs.declared.left_out.ItemList.TheVariants.{ResourceAttributes, Resources};
+ghost use Rattle.otel_otlp_read.specs.Kept.{kept_from, left, none_kept};
 ghost use Rattle.otel_otlp_read.specs.Reading.{Gives};
-ghost use Rattle.otel_otlp_read.specs.Requests.{first_or_empty, list_of_option, named_in, service_in, service_member};
-ghost use Rattle.otel_otlp_read.specs.Requests.{value_member};
+ghost use Rattle.otel_otlp_read.specs.Services.{first_or_empty, list_of_option, named_in, service_in, service_member};
+ghost use Rattle.otel_otlp_read.specs.Services.{value_member};
 
 use crate::fault::{Fault, ReadError};
 use crate::left_out::{ItemList, ItemPlace, LeftOut};
@@ -49,6 +49,19 @@ impl ReadNames {
         }
     }
 
+    /// None of a resource that does not read, the one of this number.
+    fn without(alloc: Global, number: u64, fault: Fault) -> Result<ReadNames, AllocError>
+        ensures { IfOk result (λ read. read ≡ left (record { list = Resources; number = number }) fault) }
+    {
+        let list = ItemList::Resources;
+        let mut names = ReadNames::new(alloc);
+        names.left_out.push(LeftOut {
+            item: ItemPlace { list, number },
+            fault,
+        })?;
+        Ok(names)
+    }
+
     /// The first name, empty where there is none.
     pub(crate) fn first(&self) -> &str
         ensures { result.now ≡ first_or_empty self.now.kept }
@@ -86,7 +99,7 @@ fn value_text(alloc: Global, attribute: &Value) -> Result<String, ReadError>
 }
 
 /// The name that an attribute gives the service, if it is called `service.name`.
-#[tactic(auto, unfolding(crate::specs::Requests::named_in))]
+#[tactic(auto, unfolding(crate::specs::Services::named_in))]
 fn named(alloc: Global, attribute: &Value) -> Result<Option<String>, ReadError>
     ensures { Gives (λ name. list_of_option (option_map string_bytes name)) result
         (named_in (value_view attribute.now)) }
@@ -115,7 +128,7 @@ fn each_name(alloc: Global, resource: u64, items: &[Value]) -> Result<ReadNames,
 }
 
 /// The names of the service that a resource gives, the one of this number.
-#[tactic(auto, unfolding(crate::specs::Requests::service_in))]
+#[tactic(auto, unfolding(crate::specs::Services::service_in))]
 fn service_in(alloc: Global, number: u64, resource: &Value) -> Result<ReadNames, ReadError>
     ensures { Gives (λ read. read) result (service_in number (value_view resource.now)) }
 {
@@ -124,16 +137,20 @@ fn service_in(alloc: Global, number: u64, resource: &Value) -> Result<ReadNames,
     Ok(each_name(alloc, number, items)?)
 }
 
-/// The names of the service whose spans these are, none where nobody gives one.
+/// The names of the service whose spans these are, none where nobody gives one, or the resource does not read.
 pub(crate) fn service(
     alloc: Global,
     number: u64,
     resource_spans: &Value,
-) -> Result<ReadNames, ReadError>
-    ensures { Gives (λ read. read) result (service_member number (value_view resource_spans.now)) }
+) -> Result<ReadNames, AllocError>
+    ensures { IfOk result (λ read. read ≡ service_member number (value_view resource_spans.now)) }
 {
-    match given(resource_spans, "resource") {
-        Some(resource) => service_in(alloc, number, resource),
-        None => Ok(ReadNames::new(alloc)),
+    let Some(resource) = given(resource_spans, "resource") else {
+        return Ok(ReadNames::new(alloc));
+    };
+    match service_in(alloc, number, resource) {
+        Ok(names) => Ok(names),
+        Err(ReadError::Fault(fault)) => ReadNames::without(alloc, number, fault),
+        Err(ReadError::OutOfMemory) => Err(AllocError),
     }
 }

@@ -19,10 +19,10 @@ use std::alloc::Global;
 use std::marker::Model;
 
 /// A span as it is shown, and which of its attributes, events and links do not read.
-#[derive(Debug, Drop)]
-pub struct ReadSpan {
-    pub span: ShownSpan,
-    pub left_out: Vec<LeftOut>,
+#[derive(Drop)]
+pub(crate) struct ReadSpan {
+    pub(crate) span: ShownSpan,
+    pub(crate) left_out: Vec<LeftOut>,
 }
 
 impl Model for ReadSpan {

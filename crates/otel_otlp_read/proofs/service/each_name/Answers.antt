@@ -3,8 +3,8 @@ use Rattle.std.proofs.Common.{arith, map}
 use Rattle.json.specs.Value.{value_view}
 use Rattle.otel_otlp_read.specs.declared.left_out.ItemList.TheVariants.{ResourceAttributes}
 use Rattle.otel_otlp_read.specs.Kept.{kept_from}
-use Rattle.otel_otlp_read.specs.Requests.{named_in}
-use Rattle.otel_otlp_read.proofs.KeptReading.{kept_ends, kept_more}
+use Rattle.otel_otlp_read.specs.Services.{named_in}
+use Rattle.otel_otlp_read.proofs.KeptReading.{item_of, kept_ends, kept_more}
 use Rattle.otel_otlp_read.proofs.service.each_name.Goals as goal
 
 pub loop-place-preserved : goal.loop-place-preserved
@@ -12,7 +12,7 @@ loop-place-preserved c =
     let read = named_in in
     let list = ResourceAttributes c.args.resource in
     let items = c.args.items.now in
-    kept_more read list value_view items c.loop-place.place c.loop-place.read
+    kept_more (item_of read list) value_view items c.loop-place.place c.loop-place.read
     (kept_from read list 1 (map value_view items)) c.index-items-place.result c.add.new.self (omega arith)
     c.index-items-place.is c.loop-place.invariant (c.in_ok-add.ensures {u = tt})
 
@@ -21,5 +21,5 @@ returns c =
     let read = named_in in
     let list = ResourceAttributes c.args.resource in
     let items = c.args.items.now in
-    kept_ends read list value_view items c.loop-place.place c.loop-place.read
+    kept_ends (item_of read list) value_view items c.loop-place.place c.loop-place.read
     (kept_from read list 1 (map value_view items)) (omega arith) c.loop-place.invariant

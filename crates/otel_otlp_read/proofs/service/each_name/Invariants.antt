@@ -4,7 +4,7 @@ use Rattle.json.specs.Json.{Json}
 use Rattle.json.specs.Value.{value_view}
 use Rattle.otel_otlp_read.specs.declared.left_out.ItemList.TheVariants.{ResourceAttributes}
 use Rattle.otel_otlp_read.specs.Kept.{and_kept, kept_from}
-use Rattle.otel_otlp_read.specs.Requests.{named_in}
+use Rattle.otel_otlp_read.specs.Services.{named_in}
 use Rattle.otel_otlp_read.proofs.service.each_name.Given as goal
 
 abbrev pub invariant-loop-place : goal.invariant-loop-place

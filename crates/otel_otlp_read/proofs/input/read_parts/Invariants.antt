@@ -1,13 +1,14 @@
--- What was read of the lines so far, and what is read of those that are left, is all. Each line but the last took a
+-- What was read of the parts so far, and what is read of those that are left, is all. Each line but the last took a
 -- byte at least, and has one request at most.
 use Rattle.std.proofs.Common.{◌≡◌, ◌+◌, ◌<◌, ◌≤◌, length}
-use Rattle.otel_otlp_read.specs.Inputs.{and_read, lines_after, read_lines, text_lines}
+use Rattle.otel_otlp_read.specs.Cuts.{parts, parts_after}
+use Rattle.otel_otlp_read.specs.Inputs.{and_read, read_parts}
 use Rattle.otel_otlp_read.proofs.LeftLines.{left, left_text}
-use Rattle.otel_otlp_read.proofs.input.read_lines.Given as goal
+use Rattle.otel_otlp_read.proofs.input.read_parts.Given as goal
 
 abbrev pub invariant-loop-left : goal.invariant-loop-left
 invariant-loop-left l = record {
-  read : and_read l.read (read_lines l.number (lines_after (left_text l.left))) ≡ read_lines 1 (text_lines l.text);
+  read : and_read l.read (read_parts l.number (parts_after (left_text l.left))) ≡ read_parts 1 (parts l.text);
   few : l.read.spanless < l.number;
   room : l.number + left (left_text l.left) ≤ length l.text + 2;
 }
