@@ -6,6 +6,9 @@ pub mod Drawn
 pub mod Durations
 pub mod Families
 pub mod Groups
+pub mod HtmlJson
+pub mod HtmlRows
+pub mod HtmlTexts
 pub mod Layouts
 pub mod Orders
 pub mod Parents

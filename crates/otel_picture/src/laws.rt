@@ -1,8 +1,10 @@
 //! Laws of pictures. Each function does nothing; its contract is the law, for all values.
 
-ghost use Rattle.std.specs.Prelude.{ℕ, ◌≡◌, ◌<◌, ◌≤◌, ◌+◌, All, List, Option, Some, [], length, max};
+ghost use Rattle.std.specs.Prelude.{ℕ, ◌≡◌, ◌≢◌, ◌<◌, ◌≤◌, ◌+◌, All, List, Option, Some, [], length, max};
 ghost use Rattle.otel_picture.specs.Bars.{column, first_of, last_of};
+ghost use Rattle.otel_picture.specs.Drawn.{PlainTraces};
 ghost use Rattle.otel_picture.specs.Durations.{shown_duration, step_of};
+ghost use Rattle.otel_picture.specs.HtmlTexts.{html_data};
 ghost use Rattle.otel_picture.specs.Orders.{IsHead, mark_at};
 ghost use Rattle.otel_picture.specs.Parents.{HasAncestors, ancestor};
 ghost use Rattle.otel_picture.specs.Rows.{StandUnder};
@@ -37,6 +39,12 @@ pub fn circles_have_one_head()
 /// What the SVG form writes for a character is an entity, or bytes that begin nothing in XML.
 pub fn escapes_are_pieces()
     ensures { (c : ℕ) → IsPiece (escaped_char c) }
+{}
+
+/// No byte of the data of the HTML form is a `<`, with which each mark of HTML begins: so no text of a span ends their
+/// element.
+pub fn html_data_begin_no_mark()
+    ensures { (drawn : PlainTraces) → All (λ byte. byte ≢ 60) (html_data drawn) }
 {}
 
 /// What is shown of a duration is not greater than it and less than one unit of its last digit away, and of two

@@ -25,7 +25,7 @@ use otel_shown::ShownSpan;
 use std::alloc::{AllocError, Global};
 
 /// A member whose value is a text.
-fn push_text(out: &mut Writer, key: &str, value: &str) -> Result<(), AllocError>
+pub(crate) fn push_text(out: &mut Writer, key: &str, value: &str) -> Result<(), AllocError>
     ensures before { out.new.before ≡ out.old.before }
     ensures written { OnOk result (out.new.tokens ≡ out.old.tokens ++ text_member key.now value.now) }
 {
@@ -34,7 +34,7 @@ fn push_text(out: &mut Writer, key: &str, value: &str) -> Result<(), AllocError>
 }
 
 /// A member whose value is a moment, in nanoseconds since 1970, as decimal digits in a text.
-fn push_moment(out: &mut Writer, key: &str, moment: u64) -> Result<(), AllocError>
+pub(crate) fn push_moment(out: &mut Writer, key: &str, moment: u64) -> Result<(), AllocError>
     ensures before { out.new.before ≡ out.old.before }
     ensures written { OnOk result (out.new.tokens ≡ out.old.tokens ++ text_member key.now (decimal moment)) }
 {
@@ -43,7 +43,7 @@ fn push_moment(out: &mut Writer, key: &str, moment: u64) -> Result<(), AllocErro
 }
 
 /// A member whose value is a number.
-fn push_number(out: &mut Writer, key: &str, value: u64) -> Result<(), AllocError>
+pub(crate) fn push_number(out: &mut Writer, key: &str, value: u64) -> Result<(), AllocError>
     ensures before { out.new.before ≡ out.old.before }
     ensures written { OnOk result (out.new.tokens ≡ out.old.tokens ++ number_member key.now value) }
 {
@@ -87,7 +87,7 @@ impl Sheet<'_> {
     }
 
     /// The members of the object of a trace.
-    fn push_members(&self, alloc: Global, out: &mut Writer) -> Result<(), AllocError>
+    pub(crate) fn push_members(&self, alloc: Global, out: &mut Writer) -> Result<(), AllocError>
         ensures before { out.new.before ≡ out.old.before }
         ensures written { OnOk result (out.new.tokens ≡ out.old.tokens ++ summary_members (plain_sheet self.now)) }
     {
