@@ -41,8 +41,9 @@ plain_form = views.Picture (forms.Text 72)
 unfoldable pub form_in : List ℕ → Option ViewForm
 form_in word =
     if bytes_eq word (codes "svg") then Some (views.Picture forms.Svg) else
-    (if bytes_eq word (codes "json") then Some views.Summary
-    else option_map (λ columns. views.Picture (forms.Text columns)) (columns_in word))
+    (if bytes_eq word (codes "json") then Some views.Summary else
+    (if bytes_eq word (codes "html") then Some views.Html
+    else option_map (λ columns. views.Picture (forms.Text columns)) (columns_in word)))
 
 abbrev pub viewed : ViewForm → List (List ℕ) → Option View
 viewed form words = option_map (λ choice. record { form = form; choice = choice }) (chosen words every)

@@ -24,6 +24,8 @@ pub enum ViewForm {
     Picture(PictureForm),
     /// A line of JSON a trace.
     Summary,
+    /// One HTML file.
+    Html,
 }
 
 /// The form where no word names one.
@@ -50,7 +52,7 @@ fn viewed(form: ViewForm, words: &[String]) -> Option<View>
     Some(View { form, choice })
 }
 
-/// The form that a word names: `svg`, `json`, or a number of columns; none where it names none.
+/// The form that a word names: `svg`, `json`, `html`, or a number of columns; none where it names none.
 #[tactic(auto, unfolding(crate::specs::AskedViews::form_in))]
 pub(crate) fn form_of(word: &str) -> Option<ViewForm>
     ensures { result ≡ form_in word.now }
@@ -59,6 +61,8 @@ pub(crate) fn form_of(word: &str) -> Option<ViewForm>
         Some(ViewForm::Picture(PictureForm::Svg))
     } else if word == "json" {
         Some(ViewForm::Summary)
+    } else if word == "html" {
+        Some(ViewForm::Html)
     } else {
         let columns = columns_of(word)?;
         Some(ViewForm::Picture(PictureForm::Text { columns }))

@@ -38,7 +38,7 @@ pub const HELP: &str =
     otel_trace svg SEED simple\n\
     otel_trace svg SEED batch Q B\n\
     \x20   draws them as SVG, example: otel_trace svg 1 simple < checkout.txt > checkout.svg\n\
-    otel_trace view [COLUMNS | svg | json] [--errors] [--slowest N] [--trace ID] [--attributes]\n\
+    otel_trace view [COLUMNS | svg | json | html] [--errors] [--slowest N] [--trace ID] [--attributes]\n\
     \x20   draws traces out of OTLP JSON of any producer, example: otel_trace view < spans.jsonl\n\
     otel_trace help [MODE]\n\
     otel_trace version\n";
@@ -81,12 +81,13 @@ pub const SVG_HELP: &str = "otel_trace svg SEED simple\n\
     example: otel_trace svg 1 simple < checkout.txt > checkout.svg\n";
 
 pub const VIEW_HELP: &str =
-    "otel_trace view [COLUMNS | svg | json] [--errors] [--slowest N] [--trace ID] [--attributes]\n\
+    "otel_trace view [COLUMNS | svg | json | html] [--errors] [--slowest N] [--trace ID] [--attributes]\n\
     \n\
     Draws traces at the end of the input, which is OTLP JSON of any producer: a request a line, or one over many lines.\n\
     A line that does not read is named, and the others are drawn. COLUMNS are 20 to 400, and 72 where none are given;\n\
-    svg writes one SVG file in their place, and json a line a trace. After --errors only traces with a failed span are\n\
-    drawn, after --slowest the N longest, the longest first, and after --trace that of an ID of 32 digits 0-9 a-f.\n\
+    svg writes one SVG file in their place, html a page for a browser, and json a line a trace. After --errors only\n\
+    traces with a failed span are drawn, after --slowest the N longest, the longest first, and after --trace that of an\n\
+    ID of 32 digits 0-9 a-f.\n\
     After --attributes text has the attributes of spans, and all events, under the rows.\n\
     \n\
     example: otel_trace view 120 --slowest 10 < spans.jsonl\n";
@@ -103,7 +104,7 @@ pub const PICTURE_USAGE: &str =
 pub const SVG_USAGE: &str = "usage: otel_trace svg SEED simple | svg SEED batch Q B\n";
 
 pub const VIEW_USAGE: &str =
-    "usage: otel_trace view [COLUMNS | svg | json] [--errors] [--slowest N] [--trace ID] [--attributes]\n";
+    "usage: otel_trace view [COLUMNS | svg | json | html] [--errors] [--slowest N] [--trace ID] [--attributes]\n";
 
 /// The text of a page.
 pub(crate) fn text_of(page: Page) -> &'static str
