@@ -26,7 +26,7 @@ SANITIZED_SEEDS = range(10, 14)
 PYTHON_MINORS = range(9, 15)
 NO_COLLECTOR = "http://127.0.0.1:1"
 PYENV = os.environ.get("PYENV_ROOT") or os.path.expanduser("~/.pyenv")
-DIFFERING_TESTS = ("tests.test_signals", "tests.test_spans", "tests.test_pipeline")
+DIFFERING_TESTS = ("tests.test_signals", "tests.test_spans", "tests.test_pipeline", "tests.test_arguments")
 
 
 def parts(calls):

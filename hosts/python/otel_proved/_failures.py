@@ -32,7 +32,8 @@ class Failures(_fork.Renewed):
     def note(self, error: OtelError) -> None:
         """Counts a failure."""
         self._count.add()
-        # The traceback would keep what its frames hold.
+        # Tracebacks would keep what their frames hold, also that of an error of the service.
+        error.__context__ = None
         self.last = error.with_traceback(None)
 
     def refuse(self, why: str) -> None:

@@ -14,6 +14,11 @@ _METHODS = {"CONNECT", "DELETE", "GET", "HEAD", "OPTIONS", "PATCH", "POST", "PUT
 _FIRST_SERVER_ERROR = 500
 
 
+def plain(value: object) -> str:
+    """A text as it is; an empty one for what is none."""
+    return str.__str__(value) if isinstance(value, str) else ""
+
+
 def start_request(starter: Starter, method: str, path: str, headers: Headers) -> Span:
     """Starts the span of a request, as a child of the one that its headers name."""
     attributes: "dict[str, Value]" = {"url.path": path}

@@ -65,7 +65,8 @@ def moment_fault(moment: object) -> str:
     """What is wrong with a moment in nanoseconds; an empty text where nothing is."""
     if isinstance(moment, bool) or not isinstance(moment, int):
         return f"a moment must be an int of nanoseconds, not {type(moment).__name__}"
-    return "" if 0 <= moment <= LAST_MOMENT else f"a moment must be from 0 to {LAST_MOMENT}, not {moment}"
+    number = int.__int__(moment)
+    return "" if 0 <= number <= LAST_MOMENT else f"a moment must be from 0 to {LAST_MOMENT}, not {number}"
 
 
 def moment_near(moment: Optional[int], failures: Failures) -> int:
@@ -80,16 +81,19 @@ def encode_all(attributes: Optional[Attributes], failures: Failures) -> List[Enc
     """Each attribute, in their order, but those that are left out."""
     if attributes is None:
         return []
-    pairs = list(attributes.items()) if type(attributes) is dict else _pairs_of(attributes)
+    pairs = pairs_of(attributes)
     if pairs is None:
         failures.refuse(f"attributes must be a mapping, not {type(attributes).__name__}")
         return []
     return [it for it in (encode(key, value, failures) for key, value in pairs) if it is not None]
 
 
-def _pairs_of(attributes: Attributes) -> Optional[List[Tuple[Any, Any]]]:
+def pairs_of(mapping: Any) -> Optional[List[Tuple[Any, Any]]]:
+    """The pairs of a mapping, whose code may be the service's own; None where it hands none out."""
+    if type(mapping) is dict:
+        return list(mapping.items())
     try:
-        return [(key, value) for key, value in attributes.items()]
+        return [(key, value) for key, value in mapping.items()]
     except Exception:
         return None
 
@@ -105,7 +109,7 @@ def encode(key: str, value: Value, failures: Failures) -> Optional[Encoded]:
     name = text(text_of(key))
     encoded = _encode_list(name, value) if isinstance(value, (list, tuple)) else _encode(name, value)
     if encoded is None:
-        failures.leave_out(ascii(key), f"is {_named(value)}, not {_TYPES}, or a list of one of these")
+        failures.leave_out(ascii(str.__str__(key)), f"is {_named(value)}, not {_TYPES}, or a list of one of these")
     return encoded
 
 
@@ -123,7 +127,7 @@ def _form_of(value: object) -> Optional[str]:
         return "text"
     if isinstance(value, bool):
         return "bool"
-    if isinstance(value, int) and SMALLEST <= value <= GREATEST:
+    if isinstance(value, int) and SMALLEST <= int.__int__(value) <= GREATEST:
         return "integer"
     if isinstance(value, float):
         return "float"

@@ -5,7 +5,7 @@ from __future__ import annotations
 
 from typing import Any, Awaitable, Callable, List, MutableMapping
 
-from ._requests import end_request, start_request
+from ._requests import end_request, plain, start_request
 from .current import use_span
 from .pipeline import Starter
 
@@ -36,7 +36,7 @@ class TracedApplication:
         if scope.get("type") not in _TRACED:
             return await self._application(scope, receive, send)
         method, codes = scope.get("method", "GET"), []  # type: ignore[var-annotated]
-        span = start_request(self._starter, str(method), str(scope.get("path", "")), scope.get("headers") or ())
+        span = start_request(self._starter, plain(method), plain(scope.get("path")), scope.get("headers", ()))
         try:
             with use_span(span):
                 await self._application(scope, receive, _noting(send, codes))
@@ -52,8 +52,8 @@ def _noting(send: Send, codes: List[int]) -> Send:
 
     async def noting(message: Message) -> None:
         status = message.get("status")
-        if message.get("type") in _STARTS and isinstance(status, int):
-            codes.append(status)
+        if plain(message.get("type")) in _STARTS and isinstance(status, int):
+            codes.append(int.__int__(status))
         await send(message)
 
     return noting

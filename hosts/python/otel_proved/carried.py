@@ -9,6 +9,7 @@ import re
 import urllib.parse
 from typing import Dict, Iterator, List, Mapping, Optional, Tuple
 
+from ._values import pairs_of, text_of
 from .current import current_span
 from .span import Span
 
@@ -39,10 +40,10 @@ def use_baggage(entries: Mapping[str, Optional[str]]) -> Iterator[None]:
 
     A name is a token of HTTP; another one is left out, and counted as an attribute would be. A value is any text.
     """
-    if not isinstance(entries, Mapping):
+    pairs = pairs_of(entries) if isinstance(entries, Mapping) else None
+    if pairs is None:
         current_span().leave_out("baggage", f"is no mapping, but of the type {type(entries).__name__}")
-        entries = {}
-    kept = {name: value for name, value in entries.items() if _is_good(name, value)}
+    kept = {str.__str__(name): _plain(value) for name, value in pairs or () if _is_good(name, value)}
     token = _set.set({**_set.get(), **kept})
     try:
         yield
@@ -51,10 +52,15 @@ def use_baggage(entries: Mapping[str, Optional[str]]) -> Iterator[None]:
             _set.reset(token)
 
 
+def _plain(value: Optional[str]) -> Optional[str]:
+    return None if value is None else str.__str__(value)
+
+
 def _is_good(name: object, value: object) -> bool:
     if isinstance(name, str) and _TOKEN.fullmatch(name) and isinstance(value, (str, type(None))):
         return True
-    current_span().leave_out(ascii(name), "is baggage whose name is no token of HTTP, or whose value is no text")
+    said = ascii(text_of(name).decode())
+    current_span().leave_out(said, "is baggage whose name is no token of HTTP, or whose value is no text")
     return False
 
 

@@ -32,11 +32,16 @@ def traced(
         return traced()(name)
 
     def decorate(function: _Function) -> _Function:
-        named = name or function.__qualname__
+        own_name = getattr(function, "__qualname__", type(function).__name__)
+        named = own_name if isinstance(name, str) and not str.__str__(name) else name
 
         def start() -> Span:
-            by = starter or latest_pipeline()
-            return by.start_span(named, kind, attributes) if by is not None else NO_SPAN
+            by = starter if isinstance(starter, Starter) else latest_pipeline()
+            if by is None:
+                return NO_SPAN
+            if starter is not None and by is not starter:
+                by.refuse(f"spans are started by a Pipeline or a Tracer, not by {type(starter).__name__}")
+            return by.start_span(named, kind, attributes)
 
         return cast(_Function, functools.wraps(function)(_wrapper(function, start)))
 

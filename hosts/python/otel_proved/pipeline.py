@@ -50,6 +50,10 @@ class Starter(abc.ABC):
     def _begin(self, beginning: Beginning, parent: Parent) -> Span:
         """Starts a span, or counts the failure."""
 
+    def refuse(self, why: str) -> None:
+        """Counts a wrong argument of a call that was to start a span."""
+        self._failures.refuse(why)
+
     def start_span(
         self,
         name: str,

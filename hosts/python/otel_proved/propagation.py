@@ -24,12 +24,24 @@ def inject(headers: MutableMapping[str, str], span: Optional[Span] = None) -> No
 
     Without a span and baggage it leaves all as it is.
     """
-    span = span or current_span()
+    given, span = span, span if isinstance(span, Span) else current_span()
+    if given is not None and given is not span:
+        span.refuse(f"headers name a Span, not {type(given).__name__}")
     found = span.headers()
     found = Remote(found.traceparent, found.tracestate, header_of(span, found.baggage))
     fields = [(name, value) for name, value in found.fields() if name in _known()]
-    if not (hasattr(headers, "keys") and hasattr(headers, "__setitem__")):
-        return span.refuse(f"headers are written into a mapping, not into {type(headers).__name__}")
+    if type(headers) is dict:
+        return _write(fields, headers)
+    try:
+        if hasattr(headers, "keys") and hasattr(headers, "__setitem__"):
+            return _write(fields, headers)
+        why = "a mapping"
+    except Exception:
+        why = "a mapping that takes them"
+    return span.refuse(f"headers are written into {why}, not into {type(headers).__name__}")
+
+
+def _write(fields: List[Tuple[str, str]], headers: MutableMapping[str, str]) -> None:
     for name in [it for it in headers if _field_of(it)] if fields else ():
         del headers[name]
     for name, value in fields:
@@ -61,14 +73,15 @@ def _known() -> Tuple[str, ...]:
 def _pairs_of(headers: Headers) -> List[Tuple[Any, Any]]:
     try:
         return [(name, value) for name, value in (headers.items() if hasattr(headers, "items") else headers)]
-    except (AttributeError, TypeError, ValueError):
+    except Exception:
+        # It may be the service's own code.
         return []
 
 
 def _field_of(name: Any) -> Optional[str]:
     if isinstance(name, bytes):
-        name = name.decode("latin-1")
-    lowered = name.lower() if isinstance(name, str) else None
+        name = bytes.decode(name, "latin-1")
+    lowered = str.lower(name) if isinstance(name, str) else None
     return lowered if lowered in FIELDS else None
 
 
@@ -76,7 +89,7 @@ def _text_of(value: Any) -> str:
     """The text of a field, which servers hand on as Latin-1; an empty one where it says nothing."""
     if not isinstance(value, (str, bytes)):
         return ""
-    read = _decoded(value) if isinstance(value, bytes) else _as_utf8(value)
+    read = _decoded(value) if isinstance(value, bytes) else _as_utf8(str.__str__(value))
     return "" if CONTROL.search(read) else read
 
 
@@ -91,7 +104,7 @@ def _as_utf8(value: str) -> str:
 
 def _decoded(value: bytes) -> str:
     try:
-        return value.decode()
+        return bytes.decode(value)
     except UnicodeDecodeError:
         return ""
 

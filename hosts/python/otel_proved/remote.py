@@ -23,6 +23,13 @@ class Remote:
     tracestate: str = ""
     baggage: str = ""
 
+    def __post_init__(self) -> None:
+        """What is no text says nothing."""
+        for name in FIELDS:
+            value = getattr(self, name)
+            if type(value) is not str:
+                object.__setattr__(self, name, str.__str__(value) if isinstance(value, str) else "")
+
     @staticmethod
     def of_lines(lines: bytes) -> "Remote":
         """The headers in lines of a name, a colon, a space and a value, in the order of FIELDS.

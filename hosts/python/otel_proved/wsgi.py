@@ -5,7 +5,7 @@ from __future__ import annotations
 
 from typing import Any, Callable, Dict, Iterable, Iterator, List, Optional
 
-from ._requests import end_request, start_request
+from ._requests import end_request, plain, start_request
 from .current import use_span
 from .pipeline import Starter
 from .remote import FIELDS
@@ -31,7 +31,7 @@ class TracedApplication:
         statuses: List[str] = []
 
         def start(status: str, *rest: Any) -> Any:
-            statuses.append(str(status))
+            statuses.append(status if isinstance(status, str) else "")
             return start_response(status, *rest)
 
         try:
@@ -46,11 +46,11 @@ class TracedApplication:
 
 
 def _start(starter: Starter, environment: Environment) -> Span:
-    path = environment.get("SCRIPT_NAME", "") + environment.get("PATH_INFO", "")
+    path = plain(environment.get("SCRIPT_NAME")) + plain(environment.get("PATH_INFO"))
     # WSGI hands bytes on as Latin-1.
     path = path.encode("latin-1", "replace").decode("utf-8", "replace")
     headers = {name: environment.get(f"HTTP_{name.upper()}", "") for name in FIELDS}
-    return start_request(starter, environment.get("REQUEST_METHOD", ""), path, headers)
+    return start_request(starter, plain(environment.get("REQUEST_METHOD")), path, headers)
 
 
 def _end(span: Span, statuses: List[str]) -> None:
