@@ -56,8 +56,9 @@ enum otel_service_status {
 /* What such a status says, in a few words. */
 const char *otel_service_status_text(uint32_t status);
 
-/* Takes a notice: a line of text without its end. It comes from a thread of the service, or from within
-   otel_service_close, and may make calls of the service. */
+/* Takes a notice: a line of text without its end. It comes from a thread of the service, from within
+   otel_service_flush and otel_service_close, and where the system gives no thread from within any call. It may make
+   calls of spans. */
 typedef void (*otel_service_notice)(void *context, const char *text);
 
 /* How a service works. Begin with otel_service_options_of_defaults. */
@@ -114,8 +115,9 @@ typedef struct {
   uint64_t failed_calls; /* calls of spans that failed */
 } otel_service_numbers;
 
-/* A span: its key, which is 0 where it could not start, and who it is. It is a value, and may be copied. After its end,
-   and where it could not start, children of it are still of its trace. */
+/* A span: its key, which is 0 where it could not start, and who it is. It is a value, and may be copied. After its end
+   children of it are still of its trace. Where it could not start, as after otel_service_close, it stands for its
+   parent, also for one that headers name: its children are that one's, and it hands that one's traceparent on. */
 typedef struct {
   uint64_t key;
   otel_span_identity identity;
@@ -149,7 +151,7 @@ uint32_t otel_service_count(otel_service *service, otel_service_numbers *numbers
 
 /* Exports and posts what waits, as far as the time allows, and ends the thread. Spans that are open are lost, and so is
    what is not posted by then: a notice says how many. OTEL_FAILED where something was lost now, and OTEL_CLOSED where
-   it was closed before. Calls after it do nothing, and are counted as failed. */
+   it was closed before. Calls after it do nothing, and are counted as failed; but spans are handed on still. */
 uint32_t otel_service_close(otel_service *service, uint64_t milliseconds);
 
 /* Lets go of a service and its memory, and closes it before with no time, if nobody did. NULL is nothing. */

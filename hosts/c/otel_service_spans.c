@@ -32,6 +32,30 @@ static traceparent traceparent_of(const otel_span_identity *identity) {
   return made;
 }
 
+static bool read_digits(const char **at, size_t count, uint64_t *number) {
+  for (*number = 0; count > 0; count--, (*at)++) {
+    bool is_digit = **at >= '0' && **at <= '9';
+    if (!is_digit && (**at < 'a' || **at > 'f')) {
+      return false;
+    }
+    *number = *number << 4 | (uint64_t)(is_digit ? **at - '0' : **at - 'a' + 10);
+  }
+  return true;
+}
+
+/* Who the span is that a header traceparent names; nobody where it names none. */
+static otel_span_identity identity_of(const char *text) {
+  otel_span_identity found = {0}, nobody = {0};
+  uint64_t version = 0, flags = 0;
+  const char *at = text == NULL ? "" : text;
+  bool reads = read_digits(&at, 2, &version) && *at++ == '-' && read_digits(&at, 16, &found.trace_id_high) &&
+               read_digits(&at, 16, &found.trace_id_low) && *at++ == '-' && read_digits(&at, 16, &found.span_id) &&
+               *at++ == '-' && read_digits(&at, 2, &flags);
+  bool ends = reads && version < 0xff && (*at == '\0' || (version > 0 && *at == '-'));
+  found.trace_flags = flags & 1;
+  return ends && (found.trace_id_high | found.trace_id_low) != 0 && found.span_id != 0 ? found : nobody;
+}
+
 static uint64_t moment_now(void) {
   struct timespec now = {0};
   clock_gettime(CLOCK_REALTIME, &now);
@@ -89,15 +113,19 @@ static uint32_t start_below(otel_handle *handle, const otel_service_span *parent
   return status;
 }
 
-/* Ends a call that started a span. Where it failed, its children are those of its parent. */
+/* Ends a call that started a span. Where it failed, or the span is nobody since the pipeline is shut down, it stands for
+   its parent. */
 static otel_service_span started(otel_service *service, uint32_t status, uint64_t key,
-                                 const otel_service_span *parent) {
-  otel_service_span span = {.key = 0};
+                                 const otel_span_identity *parent) {
+  otel_service_span span = {.key = key};
   if (status == OTEL_OK) {
-    span.key = key;
     status = otel_identity(&service->handle, key, &span.identity);
-  } else if (parent != NULL) {
-    span.identity = parent->identity;
+  }
+  if ((span.identity.trace_id_high | span.identity.trace_id_low) == 0) {
+    if (key != 0) {
+      otel_abandon(&service->handle, key);
+    }
+    span = (otel_service_span){0, *parent};
   }
   leave(service, status);
   return span;
@@ -108,7 +136,7 @@ otel_service_span otel_service_start(otel_service *service, uint32_t kind, const
   uint64_t key = 0;
   beginning it = beginning_of(kind, name, attributes, count);
   uint32_t status = start_here(otel_service_lock(service), 0, &it, &key);
-  return started(service, status, key, NULL);
+  return started(service, status, key, &(otel_span_identity){0});
 }
 
 otel_service_span otel_service_start_child(otel_service *service, otel_service_span parent, uint32_t kind,
@@ -116,15 +144,16 @@ otel_service_span otel_service_start_child(otel_service *service, otel_service_s
   uint64_t key = 0;
   beginning it = beginning_of(kind, name, attributes, count);
   uint32_t status = start_below(otel_service_lock(service), &parent, &it, &key);
-  return started(service, status, key, &parent);
+  return started(service, status, key, &parent.identity);
 }
 
 otel_service_span otel_service_start_remote(otel_service *service, otel_service_headers headers, uint32_t kind,
                                             const char *name, const otel_attribute *attributes, size_t count) {
   uint64_t key = 0;
   beginning it = beginning_of(kind, name, attributes, count);
+  otel_span_identity parent = identity_of(headers.traceparent);
   uint32_t status = start_remote(otel_service_lock(service), &headers, &it, &key);
-  return started(service, status, key, NULL);
+  return started(service, status, key, &parent);
 }
 
 uint32_t otel_service_set(otel_service *service, otel_service_span span, const otel_attribute *attributes,
@@ -210,7 +239,7 @@ uint32_t otel_service_inject(otel_service *service, otel_service_span span, char
   uint32_t status =
       span.key == 0 ? (uint32_t)OTEL_NO_SUCH_SPAN : otel_inject(handle, span.key, (uint8_t *)buffer, room - 1, &length);
   buffer[status == OTEL_OK ? length : 0] = '\0';
-  if (status == OTEL_NO_SUCH_SPAN) {
+  if (status == OTEL_NO_SUCH_SPAN || status == OTEL_CLOSED) {
     traceparent made = traceparent_of(&span.identity);
     bool is_somebody = made.text[0] != '\0';
     bool fits = !is_somebody || strlen("traceparent: \r\n") + strlen(made.text) < room;

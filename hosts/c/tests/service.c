@@ -297,6 +297,52 @@ static void do_headers(const work_plan *plan) {
   close_and_print(service, plan);
 }
 
+static void hold_headers(otel_service *service, otel_service_span span, const char *wanted, const char *what) {
+  char headers[512];
+  hold(otel_service_inject(service, span, headers, sizeof headers) == OTEL_OK && strcmp(headers, wanted) == 0, what);
+}
+
+/* Where nothing records any more, traces of others go on. */
+static void hold_passing(otel_service *service) {
+  static const char caller[] = "00-0af7651916cd43dd8448eb211c80319c-b7ad6b7169203331-01";
+  static const char line[] = "traceparent: 00-0af7651916cd43dd8448eb211c80319c-b7ad6b7169203331-01\r\n";
+  static const char *const none[] = {"", "00-", "0x-0af7651916cd43dd8448eb211c80319c-b7ad6b7169203331-01",
+                                     "ff-0af7651916cd43dd8448eb211c80319c-b7ad6b7169203331-01",
+                                     "00-00000000000000000000000000000000-b7ad6b7169203331-01",
+                                     "00-0af7651916cd43dd8448eb211c80319c-0000000000000000-01",
+                                     "00-0AF7651916cd43dd8448eb211c80319c-b7ad6b7169203331-01",
+                                     "00-0af7651916cd43dd8448eb211c80319c-b7ad6b7169203331-0",
+                                     "00-0af7651916cd43dd8448eb211c80319c-b7ad6b7169203331-01-"};
+  otel_service_span span =
+      otel_service_start_remote(service, (otel_service_headers){.traceparent = caller}, OTEL_SERVER, "late", NULL, 0);
+  hold(span.key == 0, "nothing starts any more");
+  hold_headers(service, span, line, "it passes on whose child it was to be");
+  otel_service_span child = otel_service_start_child(service, span, OTEL_CLIENT, "below", NULL, 0);
+  hold_headers(service, child, line, "so do its children");
+  hold_headers(service, otel_service_start(service, OTEL_SERVER, "root", NULL, 0), "", "a root has nothing to pass on");
+  for (size_t i = 0; i < sizeof none / sizeof *none; i++) {
+    otel_service_headers headers = {.traceparent = none[i]};
+    span = otel_service_start_remote(service, headers, OTEL_SERVER, "late", NULL, 0);
+    hold_headers(service, span, "", "what names no span is not passed on");
+  }
+}
+
+static void do_late(const work_plan *plan) {
+  otel_service *service = opened(plan);
+  char before[512];
+  otel_service_span open = otel_service_start(service, OTEL_SERVER, "open", NULL, 0);
+  hold(otel_service_inject(service, open, before, sizeof before) == OTEL_OK, "a span hands itself on");
+  otel_shutdown(otel_service_lock(service));
+  otel_service_unlock(service);
+  hold_passing(service);
+  print_numbers(service, "shut_");
+  otel_service_close(service, plan->close_time);
+  hold_passing(service);
+  hold_headers(service, open, before, "a span that was open at the end hands itself on");
+  print_numbers(service, "");
+  otel_service_free(service);
+}
+
 /* Works while a request for memory is refused: the service does not open and says why, or all spans are counted. */
 static void do_refused(const work_plan *plan) {
   otel_service *service;
@@ -351,7 +397,7 @@ int main(int count, char **words) {
   } works[] = {
       {"plain", do_plain}, {"flush", do_flush},     {"threads", do_threads}, {"calls", do_calls},
       {"fork", do_fork},   {"forks", do_forks},     {"exit", do_exit},       {"idle_children", do_idle_children},
-      {"open", do_open},   {"headers", do_headers}, {"refused", do_refused}};
+      {"open", do_open},   {"headers", do_headers}, {"late", do_late},       {"refused", do_refused}};
   work_plan plan = {otel_service_options_of_defaults(), 100, 5000};
   for (int i = 2; i < count; i++) {
     hold(read_word(&plan, words[i]), "each word is known");
