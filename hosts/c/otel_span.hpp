@@ -215,21 +215,21 @@ public:
          [&](otel_handle *handle) { return otel_update_name(handle, key_, detail::bytes(name), name.size()); });
   }
 
-  /* The headers that hand the span on to another process, also after its end. */
+  /* The headers that hand the span on to another process, also after its end and that of the pipeline. */
   Headers inject() const noexcept {
     Headers headers;
     attempt("otel_inject", [&](otel_handle *handle) -> std::uint32_t {
+      std::uint32_t status = OTEL_NO_SUCH_SPAN;
       if (standing_ == Standing::open) {
         std::string lines;
-        std::uint32_t status =
-            detail::written(lines, [&](auto... buffer) { return otel_inject(handle, key_, buffer...); });
-        if (status != OTEL_NO_SUCH_SPAN) {
+        status = detail::written(lines, [&](auto... buffer) { return otel_inject(handle, key_, buffer...); });
+        if (status == OTEL_OK) {
           headers = detail::headers_of(lines);
           return status;
         }
       }
       headers = kept_.headers();
-      return OTEL_OK;
+      return status == OTEL_NO_SUCH_SPAN ? static_cast<std::uint32_t>(OTEL_OK) : status;
     });
     return headers;
   }

@@ -117,6 +117,19 @@ void parents_are_passed_on_after_a_shutdown() {
   hold(pipeline.failed_calls() == 0 && pipeline.count().open_spans == 0, "no call has failed, and no span is left");
 }
 
+/* Work that goes on when the pipeline is closed keeps the trace together. */
+void spans_hand_themselves_on_after_a_close() {
+  otel::Pipeline pipeline = pipeline_of_a_queue();
+  pipeline.on_notice([](const std::string &) {});
+  otel::Span open = pipeline.start_remote(CALLER, "open");
+  const otel::Headers before{{"traceparent", open.inject().at(0).second}};
+  pipeline.close();
+  hold(open.inject() == before, "a span that was open at the close hands itself on");
+  hold(open.child("below").inject() == before, "so does a child that cannot start");
+  hold(pipeline.start_remote(CALLER, "late").inject() == CALLER, "what cannot start passes its parent on");
+  hold(pipeline.failed_calls() == 3, "what failed is counted");
+}
+
 void spans_of_other_pipelines_are_linked() {
   otel::Pipeline here = pipeline_of_a_queue(), there("OTEL_SPAN_PROCESSOR=batch", 2);
   otel::Span other = there.start("other"), mine = here.start("mine");
@@ -268,6 +281,7 @@ int main() {
   what_fails_is_counted();
   ended_spans_have_children();
   parents_are_passed_on_after_a_shutdown();
+  spans_hand_themselves_on_after_a_close();
   spans_of_other_pipelines_are_linked();
   exceptions_that_leave_are_errors();
   spans_within_an_unwinding_are_no_errors();
