@@ -168,7 +168,9 @@ uint32_t otel_version(uint32_t *major, uint32_t *minor, uint32_t *patch);
    span that fills a batch exports it: the default) or `simple` (each end exports). OTEL_C_MAX_UNDRAINED_SPANS says how
    many exported spans are kept at most until a drain makes lines of them, 65536 where it is not set; a batch past that
    is lost, and counted. Lines that had no room in a buffer are kept beside them, and no others are made until they are
-   handed out. The seed decides all ids: every process needs one of its own. OTEL_ALREADY_OPEN where the handle is open,
+   handed out. The resource names the SDK that the pipeline follows; to say who you are, set OTEL_RESOURCE_ATTRIBUTES to
+   telemetry.sdk.name=otel_proved,telemetry.sdk.language=c and the like, as otel_service.h does. The seed decides all
+   ids: every process needs one of its own. OTEL_ALREADY_OPEN where the handle is open,
    OTEL_NOT_UTF8 where the settings are not UTF-8. */
 uint32_t otel_open(otel_handle *handle, const uint8_t *settings, size_t settings_length, uint64_t seed);
 

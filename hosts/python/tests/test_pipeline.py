@@ -39,6 +39,17 @@ class Settings(unittest.TestCase):
         with Pipeline({"OTEL_SERVICE_NAME": "shop", "OTEL_BOGUS": "1"}) as pipeline:
             self.assertEqual(pipeline.ignored_settings, ["OTEL_BOGUS"])
 
+    def test_a_queue_without_bounds_is_named_and_stops_nothing(self):
+        with Pipeline({"OTEL_BSP_MAX_QUEUE_SIZE": "1000000000", "OTEL_SPAN_PROCESSOR": "batch"}) as pipeline:
+            self.assertEqual(pipeline.ignored_settings, ["OTEL_BSP_MAX_QUEUE_SIZE"])
+            for _ in range(3000):
+                pipeline.start_span("a").end()
+            # The default stands in its place.
+            counts = pipeline.counts()
+            self.assertEqual((counts.waiting_spans, counts.dropped_spans), (2048, 952))
+            pipeline.flush()
+            pipeline.drain()
+
     def test_a_long_list_of_ignored_ones_is_whole(self):
         names = [f"OTEL_BOGUS_{number}" for number in range(100)]
         with Pipeline(dict.fromkeys(names, "1")) as pipeline:

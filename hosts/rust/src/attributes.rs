@@ -41,6 +41,11 @@ impl<'a, K: Into<Cow<'a, str>>, V: Into<Value<'a>>> From<(K, V)> for Attribute<'
     }
 }
 
+/// A number such as a length. One that is no `i64` is the text of its digits, as OpenTelemetry maps it.
+fn of_unsigned<'a>(number: u64) -> Value<'a> {
+    i64::try_from(number).map_or_else(|_| Value::Text(number.to_string().into()), Value::Integer)
+}
+
 macro_rules! value_from {
     ($($from:ty, $it:ident => $value:expr;)*) => {
         $(impl<'a> From<$from> for Value<'a> {
@@ -58,6 +63,9 @@ value_from! {
     Cow<'a, str>, it => Value::Text(it);
     bool, it => Value::Bool(it);
     i64, it => Value::Integer(it);
+    u64, it => of_unsigned(it);
+    usize, it => of_unsigned(it as u64);
+    isize, it => Value::Integer(it as i64);
     i32, it => Value::Integer(it.into());
     i16, it => Value::Integer(it.into());
     i8, it => Value::Integer(it.into());
@@ -89,3 +97,16 @@ macro_rules! value_from_array {
 }
 
 value_from_array!(&'a str, String, i64, f64, bool);
+
+#[cfg(test)]
+mod tests {
+    use super::*;
+
+    #[test]
+    fn numbers_keep_their_value() {
+        assert_eq!(Value::from([1, 2].len()), Value::Integer(2));
+        assert_eq!(Value::from(u64::MAX >> 1), Value::Integer(i64::MAX));
+        assert_eq!(Value::from(u64::MAX), Value::Text("18446744073709551615".into()));
+        assert_eq!(Value::from(isize::MIN), Value::Integer(i64::MIN));
+    }
+}

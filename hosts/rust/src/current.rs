@@ -100,7 +100,7 @@ pub fn current_span() -> Option<CurrentSpan> {
     };
     let (shared, standing) = ENTERED.try_with(last).ok()??;
     Some(CurrentSpan(match standing {
-        Standing::Open(key) => Span::new(shared, key),
+        Standing::Open(key, context) => Span::new(shared, key, context),
         Standing::Passing(parent) => Span::passing(shared, parent),
     }))
 }

@@ -1,6 +1,8 @@
 // SPDX-License-Identifier: Apache-2.0
 //! Headers that hand a span on from process to process.
 
+use crate::context::SpanContext;
+
 /// What headers say about the span of another process: the fields `traceparent`, `tracestate` and `baggage`. They are
 /// read when a span starts or is linked; what does not read says nothing.
 ///
@@ -39,6 +41,12 @@ impl Extracted {
             extracted.traceparent.clear();
         }
         extracted
+    }
+
+    /// What names a span, where no more is known of it; nothing where that is nobody.
+    pub(crate) fn of_context(context: &SpanContext) -> Self {
+        let traceparent = if context.is_valid() { context.to_string() } else { String::new() };
+        Self { traceparent, ..Self::default() }
     }
 
     /// The headers that have these fields.

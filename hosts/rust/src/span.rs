@@ -18,8 +18,8 @@ use std::thread;
 use std::time::SystemTime;
 
 /// Work that is traced. It ends when it is dropped, at that moment, and is handed on for export where it is sampled.
-/// Where it is dropped by a panic it is an error, with an event `exception`. One that starts after the pipeline was
-/// shut down records nothing, and passes its parent on.
+/// Where it is dropped by a panic it is an error, with an event `exception`. One that could not start, or starts after
+/// the pipeline was shut down, records nothing, and passes its parent on.
 ///
 /// No call of a span panics or answers an error: what fails is counted by
 /// [`Pipeline::failed_calls`](crate::Pipeline::failed_calls). A span does not keep its pipeline open.
@@ -28,7 +28,9 @@ pub struct Span {
     shared: Arc<Shared>,
     /// None where the span did not start, or has ended.
     key: Option<SpanKey>,
-    /// The parent in another process, where the pipeline was shut down before the start: it is passed on.
+    /// Who it is; the default where it did not start.
+    context: SpanContext,
+    /// What its parent hands on, where it did not start, and stands for that.
     passed_on: Option<Arc<Extracted>>,
     /// Whether it started in a panic, as what cleans up does.
     began_in_panic: bool,
@@ -37,8 +39,8 @@ pub struct Span {
 /// What a child is below.
 #[derive(Clone)]
 pub(crate) enum Standing {
-    Open(SpanKey),
-    /// The parent in another process of a span that started after a shutdown.
+    Open(SpanKey, SpanContext),
+    /// What the parent hands on of a span that did not start.
     Passing(Arc<Extracted>),
 }
 
@@ -76,24 +78,26 @@ impl<'a> Status<'a> {
 }
 
 impl Span {
-    pub(crate) fn new(shared: Arc<Shared>, key: SpanKey) -> Self {
-        Self { shared, key: Some(key), passed_on: None, began_in_panic: thread::panicking() }
+    pub(crate) fn new(shared: Arc<Shared>, key: SpanKey, context: SpanContext) -> Self {
+        Self { shared, key: Some(key), context, passed_on: None, began_in_panic: thread::panicking() }
     }
 
     /// A span that did not start.
     pub(crate) fn none(shared: Arc<Shared>) -> Self {
-        Self { shared, key: None, passed_on: None, began_in_panic: false }
+        Self { shared, key: None, context: SpanContext::default(), passed_on: None, began_in_panic: false }
     }
 
-    /// A span that records nothing, and stands for its parent in another process.
+    /// A span that records nothing, and stands for its parent, as that is known in another process.
     pub(crate) fn passing(shared: Arc<Shared>, parent: Arc<Extracted>) -> Self {
-        Self { shared, key: None, passed_on: Some(parent), began_in_panic: false }
+        let mut span = Self::none(shared);
+        span.passed_on = Some(parent);
+        span
     }
 
     /// What its children are below.
     pub(crate) fn standing(&self) -> Option<Standing> {
         match (&self.key, &self.passed_on) {
-            (Some(key), _) => Some(Standing::Open(*key)),
+            (Some(key), _) => Some(Standing::Open(*key, self.context)),
             (None, Some(parent)) => Some(Standing::Passing(Arc::clone(parent))),
             (None, None) => None,
         }
@@ -149,7 +153,7 @@ impl Span {
 
     /// Who the span is.
     pub fn context(&self) -> SpanContext {
-        SpanContext::of(&self.identity())
+        self.context
     }
 
     /// Whether the span records what it is told: it did start, and the sampler did not drop it.
@@ -178,7 +182,11 @@ impl Span {
             let bytes = handle.inject(key)?;
             String::from_utf8(bytes).map_err(|_| Error::NotUtf8)
         });
-        into.extend(headers::split(&text.unwrap_or_default()));
+        match text {
+            Some(text) => into.extend(headers::split(&text)),
+            // The trace goes on, also where the pipeline is closed.
+            None => into.extend(Extracted::of_context(&self.context).fields()),
+        }
     }
 
     pub fn set_attribute<'a>(&self, key: impl Into<Cow<'a, str>>, value: impl Into<Value<'a>>) -> &Self {

@@ -140,21 +140,44 @@ impl<'a> SpanBuilder<'a> {
         self
     }
 
-    /// Starts the span. Where that fails the failure is counted, and the span records nothing.
+    /// Starts the span. Where that fails the failure is counted, and the span records nothing, and stands for its
+    /// parent.
     pub fn start(self) -> Span {
-        let shared = Arc::clone(&self.tracer.shared);
-        self.try_start().unwrap_or_else(|error| {
+        self.started().unwrap_or_else(|error| {
+            let shared = Arc::clone(&self.tracer.shared);
             shared.note(error);
-            Span::none(shared)
+            match self.passed_on_instead() {
+                Some(parent) => Span::passing(shared, parent),
+                None => Span::none(shared),
+            }
         })
     }
 
     /// Starts the span, or answers why it cannot.
     pub fn try_start(self) -> Result<Span, Error> {
+        self.started()
+    }
+
+    /// What the parent hands on, where its child cannot start.
+    fn passed_on_instead(&self) -> Option<Arc<Extracted>> {
+        let shared = &self.tracer.shared;
+        let standing = match &self.parent {
+            Parent::None => None,
+            Parent::Current => current::standing_within(shared),
+            Parent::Given(SpanRef::Span(span)) => span.standing(),
+            Parent::Given(SpanRef::Remote(headers)) => Some(Standing::Passing(Arc::new((*headers).clone()))),
+        };
+        Some(match standing? {
+            Standing::Passing(headers) => headers,
+            Standing::Open(_, context) => Arc::new(Extracted::of_context(&context)),
+        })
+    }
+
+    fn started(&self) -> Result<Span, Error> {
         let moment = self.start_time.map_or_else(|| Ok(Moment::now()), Moment::of)?;
         let shared = &self.tracer.shared;
         let is_implied = matches!(self.parent, Parent::Current);
-        let parent = match self.parent {
+        let parent = match &self.parent {
             Parent::None => None,
             Parent::Current => current::standing_within(shared),
             Parent::Given(SpanRef::Span(span)) => span.standing_within(shared)?,
@@ -162,7 +185,7 @@ impl<'a> SpanBuilder<'a> {
         };
         let started = match &parent {
             None => self.start_below(ParentOf::Root, moment),
-            Some(Standing::Open(key)) => self.start_below(ParentOf::Span(*key), moment),
+            Some(Standing::Open(key, _)) => self.start_below(ParentOf::Span(*key), moment),
             Some(Standing::Passing(headers)) => self.start_below(ParentOf::Remote(headers), moment),
         };
         match started {
@@ -179,18 +202,27 @@ impl<'a> SpanBuilder<'a> {
         let start = SpanStart { tracer, parent, kind, name, moment, attributes };
         let started = shared.call(|handle| {
             let key = handle.start(&start)?;
-            Ok(passed_on(handle, key, &start.parent)?.map_or(Standing::Open(key), Standing::Passing))
+            let context = SpanContext::of(&handle.identity(key)?);
+            Ok(match passed_on(handle, key, &context, &start.parent)? {
+                Some(parent) => Standing::Passing(parent),
+                None => Standing::Open(key, context),
+            })
         })?;
         Ok(match started {
-            Standing::Open(key) => Span::new(Arc::clone(shared), key),
+            Standing::Open(key, context) => Span::new(Arc::clone(shared), key, context),
             Standing::Passing(parent) => Span::passing(Arc::clone(shared), parent),
         })
     }
 }
 
 /// The parent of a span that started after a shutdown, and is nobody then: it is let go of.
-fn passed_on(handle: &mut Handle, key: SpanKey, parent: &ParentOf<'_>) -> Result<Option<Arc<Extracted>>, Error> {
-    if !handle.is_shut_down() || SpanContext::of(&handle.identity(key)?).is_valid() {
+fn passed_on(
+    handle: &mut Handle,
+    key: SpanKey,
+    context: &SpanContext,
+    parent: &ParentOf<'_>,
+) -> Result<Option<Arc<Extracted>>, Error> {
+    if !handle.is_shut_down() || context.is_valid() {
         return Ok(None);
     }
     let headers = match parent {

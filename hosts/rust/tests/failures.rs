@@ -101,6 +101,32 @@ fn after_a_shutdown_a_span_passes_its_parent_on() {
 }
 
 #[test]
+fn after_a_close_traces_of_others_go_on() {
+    let caller = "00-0af7651916cd43dd8448eb211c80319c-b7ad6b7169203331-01";
+    let headers = [("traceparent", caller), ("baggage", "user=7")];
+    let headers_of = |span: &Span| {
+        let mut onward = Vec::new();
+        span.inject(&mut onward);
+        onward
+    };
+    let (pipeline, extracted) = (open(), Extracted::from_headers(headers));
+    let (other, tracer) = (pipeline.clone(), pipeline.tracer("shop"));
+    let open = tracer.span("open").parent(&extracted).start();
+    let context = open.context();
+    let itself = [("traceparent".to_owned(), context.to_string())];
+    pipeline.close().unwrap();
+    assert_eq!((headers_of(&open), open.context()), (itself.to_vec(), context));
+    assert_eq!(headers_of(&tracer.span("below").parent(&open).start()), itself);
+    let span = tracer.span("late").parent(&extracted).start();
+    let wanted = headers.map(|(name, value)| (name.to_owned(), value.to_owned()));
+    assert_eq!((headers_of(&span), span.is_recording()), (wanted.to_vec(), false));
+    let _current = span.enter();
+    assert_eq!(headers_of(&tracer.span("child").start()), wanted);
+    assert_eq!(headers_of(&tracer.span("root").root().start()), []);
+    assert_eq!(other.last_failure(), Some(Error::Closed));
+}
+
+#[test]
 fn spans_of_another_pipeline_are_refused() {
     let (here, there) = (open(), open());
     let (mine, other) = (here.tracer("shop").span("mine").start(), there.tracer("shop").span("other").start());

@@ -7,6 +7,9 @@ use super::message::Message;
 use std::io::{self, BufReader, Write};
 use std::time::Duration;
 
+/// In seconds.
+const LONGEST_WAIT: u64 = 24 * 60 * 60;
+
 /// What came of a line.
 #[derive(Debug, PartialEq, Eq)]
 pub(super) enum Outcome {
@@ -54,10 +57,10 @@ fn judge(answer: &Message) -> Outcome {
     }
 }
 
-/// How long the collector wants to be left alone, where it says so in seconds.
+/// How long the collector wants to be left alone, where it says so in seconds; a day at most.
 fn asked_wait(answer: &Message) -> Option<Duration> {
-    let seconds: u32 = answer.header("retry-after")?.parse().ok()?;
-    Some(Duration::from_secs(seconds.into()))
+    let seconds: u64 = answer.header("retry-after")?.parse().ok()?;
+    Some(Duration::from_secs(seconds.min(LONGEST_WAIT)))
 }
 
 /// How many spans of a line the collector did not take.
@@ -95,6 +98,8 @@ mod tests {
             other => panic!("{other:?}"),
         };
         assert_eq!(after("HTTP/1.1 503 Busy\r\nretry-after: 7\r\n\r\n"), Some(Duration::from_secs(7)));
+        let day = Some(Duration::from_secs(24 * 60 * 60));
+        assert_eq!(after("HTTP/1.1 503 Busy\r\nretry-after: 4000000000\r\n\r\n"), day);
         assert_eq!(after("HTTP/1.1 429 Busy\r\nretry-after: tomorrow\r\n\r\n"), None);
         assert_eq!(after("HTTP/1.1 502 Busy\r\n\r\n"), None);
     }

@@ -8,6 +8,7 @@ use super::moment_after;
 use super::posting::Posting;
 use super::taking::Taking;
 use crate::ffi::Process;
+use crate::notices::About;
 use crate::shared::Follower;
 use crate::Pipeline;
 use std::env;
@@ -17,9 +18,13 @@ use std::io;
 use std::mem;
 use std::sync::{Arc, Weak};
 use std::thread::{self, JoinHandle};
-use std::time::Duration;
+use std::time::{Duration, Instant};
 
 const OF_EXPORTERS: &str = "OTEL_EXPORTER_";
+
+/// How long a thread may take to say that it has ended, and how often it is asked.
+const GRACE: Duration = Duration::from_secs(1);
+const A_WHILE: Duration = Duration::from_millis(2);
 
 /// How patient a sender is.
 #[derive(Clone, Debug)]
@@ -31,13 +36,14 @@ pub struct Limits {
     /// How often a line is tried: 8 times.
     pub tries: u32,
     /// How long it waits after the first try, and twice as long after each further one: 1 second. Where an answer says
-    /// by `Retry-After` how many seconds to wait, it waits so long.
+    /// by `Retry-After` how many seconds to wait, it waits so long, a day at most.
     pub first_wait: Duration,
     /// How long it waits at most, where the answer does not say: 60 seconds.
     pub longest_wait: Duration,
     /// How many spans may wait. A line that would make them more is given up, unless no other waits: 50,000.
     pub kept_spans: u64,
-    /// How long it goes on after it was told to end, but for a request that began before: 10 seconds.
+    /// How long it goes on after it was told to end, but for a request that began before, for as long as that may take:
+    /// 10 seconds.
     pub closing_limit: Duration,
 }
 
@@ -64,6 +70,9 @@ impl Default for Limits {
 ///
 /// A process made by a fork has no such threads: there flushes answer false, counts are 0, and nothing is sent.
 ///
+/// A close waits no longer than these limits say, and a second: where a thread is then still looking for the address of
+/// the collector's host, what it has is lost, and counted.
+///
 /// It keeps its pipeline open. When it is dropped it sends what waits, as long as its limits allow; spans that end
 /// afterwards it does not send.
 ///
@@ -81,12 +90,15 @@ impl Default for Limits {
 /// ```
 #[derive(Debug)]
 pub struct HttpSender {
+    pipeline: Pipeline,
     desk: Arc<Desk>,
     /// That which takes lines and that which posts them, until they have ended.
     threads: Vec<JoinHandle<()>>,
     /// Whose threads they are.
     process: Process,
     closing_limit: Duration,
+    /// How long a request may take that began before.
+    request_limit: Duration,
     ignored_settings: Vec<String>,
 }
 
@@ -107,10 +119,12 @@ impl HttpSender {
     pub fn start(pipeline: &Pipeline, endpoint: Endpoint, limits: Limits) -> Result<Self, StartError> {
         let desk = Arc::new(Desk::default());
         let mut sender = Self {
+            pipeline: pipeline.clone(),
             desk: Arc::clone(&desk),
             threads: Vec::new(),
             process: pipeline.process(),
             closing_limit: limits.closing_limit,
+            request_limit: limits.request_limit,
             ignored_settings: Vec::new(),
         };
         let taking = Taking {
@@ -175,20 +189,42 @@ impl HttpSender {
         self.counts()
     }
 
+    /// Gives up what a thread has that hangs; it ends once it goes on.
+    fn leave_behind(&self) {
+        let lost = self.desk.give_up();
+        self.desk.fault("a thread of the sender hangs".to_owned());
+        if lost > 0 {
+            let what =
+                format_args!("spans that were not sent before the end, since a thread hangs, and are lost: {lost}");
+            self.pipeline.say(About::EndOfSender, what);
+        }
+    }
+
     fn finish(&mut self) {
         if self.process.is_another() {
             // The threads are not there, and what they had is the parent's.
             return self.threads.drain(..).for_each(mem::forget);
         }
         self.desk.close_by(moment_after(self.closing_limit));
-        for thread in self.threads.drain(..) {
-            if thread.join().is_err() {
+        let last = moment_after(self.closing_limit.saturating_add(self.request_limit).saturating_add(GRACE));
+        for thread in mem::take(&mut self.threads) {
+            if !has_ended(&thread, last) {
+                self.leave_behind();
+            } else if thread.join().is_err() {
                 self.desk.fault("a thread of the sender panicked".to_owned());
             }
             // After the first one no lines come.
             self.desk.end_lines();
         }
     }
+}
+
+/// Waits until a thread has ended. False where it has not by the last moment, since it hangs in a call of the system.
+fn has_ended(thread: &JoinHandle<()>, last: Instant) -> bool {
+    while !thread.is_finished() && Instant::now() < last {
+        thread::sleep(A_WHILE);
+    }
+    thread.is_finished()
 }
 
 impl Drop for HttpSender {
