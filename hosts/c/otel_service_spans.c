@@ -113,8 +113,8 @@ static uint32_t start_below(otel_handle *handle, const otel_service_span *parent
   return status;
 }
 
-/* Ends a call that started a span. Where it failed, or the span is nobody since the pipeline is shut down, it stands for
-   its parent. */
+/* Ends a call that started a span. Where it failed, or the span is nobody since the pipeline is shut down, it stands
+   for its parent. */
 static otel_service_span started(otel_service *service, uint32_t status, uint64_t key,
                                  const otel_span_identity *parent) {
   otel_service_span span = {.key = key};

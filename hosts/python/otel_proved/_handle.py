@@ -5,6 +5,7 @@ from __future__ import annotations
 
 import collections
 import ctypes
+import sys
 import weakref
 from functools import partial
 from typing import Any, Callable, Deque, Dict, Iterator, List, NamedTuple, Optional, Sequence, Set, TypeVar, Union
@@ -23,6 +24,10 @@ NO_SPAN = 0
 # What most answers fit into, in bytes, and what some lines do: the most room that is made without need.
 _ROOM, _ROOM_OF_LINES = 512, 2**18
 _ENDS_TO_WAKE = 256
+
+#: How many spans were lost with each handle that nobody knew any more; the end of the program says so. A log may have
+#: been in the middle of something.
+left_behind: List[int] = []
 
 
 class Scope(NamedTuple):
@@ -382,6 +387,7 @@ class Handle:
         if not self.is_closed and not self.is_foreign:
             self._may_go_on = iter((True,) if self._turns.is_mine() else ())
         self._turns = Turns()
+        left_behind.clear()
         self._queue.clear()
         self._watches.clear()
         self._gone.clear()
@@ -390,4 +396,11 @@ class Handle:
     def __del__(self) -> None:
         # Nobody else can call now. A handle that could not be opened may have less than this.
         if not getattr(self, "is_closed", True) and not self.is_foreign:
+            if not sys.is_finalizing():
+                self._note_left()
             self._functions["otel_close"](self._address)
+
+    def _note_left(self) -> None:
+        found = _declarations.Numbers()
+        if self._functions["otel_count"](self._address, found, ctypes.sizeof(found)) == _native.OK:
+            left_behind.append(found.open_spans + found.waiting_spans + found.undrained_spans)

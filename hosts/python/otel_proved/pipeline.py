@@ -4,6 +4,7 @@
 from __future__ import annotations
 
 import abc
+import atexit
 import contextlib
 import secrets
 import time
@@ -13,7 +14,7 @@ from typing import Dict, Iterator, List, Mapping, Optional, Protocol
 
 from . import _fork
 from ._failures import Failures
-from ._handle import NO_SCOPE, NO_SPAN, Beginning, Handle, Scope, Started
+from ._handle import NO_SCOPE, NO_SPAN, Beginning, Handle, Scope, Started, left_behind
 from ._native import Counts
 from ._notices import Notices, warn
 from ._outbox import spans_in
@@ -254,9 +255,19 @@ class Pipeline(Starter, _fork.Renewed):
         for follower in self._followers:
             follower.close()
         self._look()
+        open_spans = handle.count().open_spans
         lines = _lines_of(handle.close())
         self.returned_spans += sum(map(spans_in, lines))
+        if open_spans:
+            warn("spans that were open when their pipeline was closed, and that are lost: %d", open_spans)
         return lines
+
+    def left_spans(self) -> int:
+        """How many spans would be lost if the program ended now."""
+        if self.is_closed or self._handle.is_foreign:
+            return 0
+        counts = self.counts()
+        return counts.open_spans + counts.waiting_spans + counts.undrained_spans
 
     def _look(self) -> None:
         """Warns where spans were dropped, refused or lost since it looked last."""
@@ -292,6 +303,19 @@ def latest_pipeline() -> Optional[Pipeline]:
         if pipeline is not None and not pipeline.is_closed:
             return pipeline
     return None
+
+
+def _say_what_is_left() -> None:
+    """At the end of the program, after senders have finished: what is lost with pipelines that nobody closed."""
+    lost = sum(left_behind)
+    for pipeline in [it() for it in _opened]:
+        with contextlib.suppress(OtelError):
+            lost += pipeline.left_spans() if pipeline is not None else 0
+    if lost:
+        warn("spans that nobody ended or drained before the end, and that are lost: %d", lost)
+
+
+atexit.register(_say_what_is_left)
 
 
 def _wake(followers: List[Follower]) -> None:

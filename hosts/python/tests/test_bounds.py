@@ -3,13 +3,16 @@
 
 import contextlib
 import logging
+import subprocess
+import sys
+import textwrap
 import time
 import unittest
 from unittest import mock
 
 from otel_proved import Pipeline
 
-from .support import SHORT, Collector, PipelineTest, spans_in
+from .support import PACKAGE_FOLDER, SHORT, Collector, PipelineTest, spans_in
 from .test_sender import SenderTest, free_port, until
 
 PATIENCE = 20
@@ -85,6 +88,31 @@ class Returned(PipelineTest):
             with Pipeline({}) as pipeline:
                 pipeline.start_span("a").end()
         self.assertEqual(said, ["spans that were exported, that nobody drained, and that are lost: 1"])
+
+    def test_what_is_open_at_a_close_is_said(self):
+        span = self.pipeline.start_span("open")
+        with logged() as said:
+            self.pipeline.close()
+        span.end()
+        self.assertEqual(said, ["spans that were open when their pipeline was closed, and that are lost: 1"])
+
+    def test_the_end_of_the_program_says_what_is_lost(self):
+        program = """
+            import gc, os
+            from otel_proved import Pipeline
+            forgotten, pipeline = Pipeline({}), Pipeline({"OTEL_SPAN_PROCESSOR": "batch"})
+            forgotten.start_span("a").end()
+            del forgotten
+            gc.collect()
+            open_span, _ = pipeline.start_span("b"), pipeline.start_span("c").end()
+            if os.fork() == 0:
+                raise SystemExit
+            os.wait()
+        """
+        words = [sys.executable, "-B", "-c", textwrap.dedent(program)]
+        ran = subprocess.run(words, cwd=PACKAGE_FOLDER, capture_output=True, text=True, timeout=PATIENCE)
+        said = "spans that nobody ended or drained before the end, and that are lost: 3\n"
+        self.assertEqual((ran.returncode, ran.stderr), (0, said))
 
 
 class Clock(PipelineTest):

@@ -60,7 +60,9 @@ fn heard(settings: Builder) -> (Pipeline, Arc<Mutex<Vec<String>>>) {
 fn what_waits_has_a_bound_also_while_a_line_is_posted() {
     let ((endpoint, has_come, answer), pipeline) = (slow_collector(), Pipeline::builder().open().unwrap());
     let limits = Limits { kept_spans: 5000, interval: Duration::from_millis(20), ..Limits::default() };
-    let sender = HttpSender::start(&pipeline, endpoint, Limits { closing_limit: Duration::ZERO, ..limits }).unwrap();
+    // The request ends by its answer, also on a machine that is busy.
+    let limits = Limits { closing_limit: Duration::ZERO, request_limit: 5 * LONG, ..limits };
+    let sender = HttpSender::start(&pipeline, endpoint, limits).unwrap();
     end_spans(&pipeline, 512);
     has_come.recv_timeout(LONG).unwrap();
     for _round in 0..20 {
