@@ -192,7 +192,7 @@ impl Pipeline {
 
     /// Exports what waits, where it was not shut down before, hands out the last lines, and closes the pipeline for all
     /// its clones. Where not all is exported the error has the lines; where it was closed before there are none. Spans
-    /// in them are counted by [`Pipeline::returned_spans`].
+    /// in them are counted by [`Pipeline::returned_spans`]; those that were open are lost, as a notice says.
     ///
     /// ```
     /// # fn main() -> Result<(), Box<dyn std::error::Error>> {
@@ -204,8 +204,12 @@ impl Pipeline {
     /// # }
     /// ```
     pub fn close(self) -> Result<Vec<u8>, CloseError> {
-        let (lines, _open_spans, closed) = self.shared().close();
+        let (lines, open_spans, closed) = self.shared().close();
         self.shared().returned(spans_in(&lines));
+        if open_spans > 0 {
+            let what = "spans that were open at the end, and are lost";
+            self.shared().tell(About::End, format_args!("{what}: {open_spans}"));
+        }
         match closed {
             Ok(()) => Ok(lines),
             Err(error) => Err(CloseError { lines, error }),

@@ -129,6 +129,15 @@ fn what_nobody_drains_has_a_bound() {
 }
 
 #[test]
+fn what_is_open_at_a_close_is_said() {
+    let (pipeline, heard) = heard(Pipeline::builder());
+    let open = pipeline.tracer("shop").span("GET").start();
+    pipeline.close().unwrap();
+    assert_eq!(*heard.lock().unwrap(), ["spans that were open at the end, and are lost: 1"]);
+    open.end();
+}
+
+#[test]
 fn a_pipeline_that_loses_nothing_says_nothing() {
     let (pipeline, heard) = heard(Pipeline::builder());
     end_spans(&pipeline, 5);
