@@ -149,7 +149,9 @@ fn a_pipeline_that_loses_nothing_says_nothing() {
 fn a_sender_says_what_it_does_not_send() {
     let (pipeline, heard) = heard(Pipeline::builder().setting("OTEL_SPAN_PROCESSOR", "simple"));
     let millis = Duration::from_millis;
-    let limits = Limits { first_wait: millis(5), closing_limit: millis(60), kept_spans: 4, ..Limits::default() };
+    // All lines are taken at the close, and none is given up before the end of that, also where the machine is busy.
+    let limits = Limits { interval: Duration::MAX, tries: u32::MAX, kept_spans: 4, ..Limits::default() };
+    let limits = Limits { first_wait: millis(5), longest_wait: millis(20), closing_limit: millis(1000), ..limits };
     let sender = HttpSender::start(&pipeline, deserted(), limits).unwrap();
     end_spans(&pipeline, 6);
     sender.close();
