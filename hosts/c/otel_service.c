@@ -158,12 +158,19 @@ static void lock(otel_service *service) {
 }
 
 otel_handle *otel_service_lock(otel_service *service) {
+  static otel_handle never_opened;
+  if (service == NULL) {
+    return &never_opened;
+  }
   lock(service);
   /* A child process that could not have a service of its own makes no call on its parent's. */
   return service->state.is_forked ? &service->nobody : &service->handle;
 }
 
 void otel_service_unlock(otel_service *service) {
+  if (service == NULL) {
+    return;
+  }
   otel_private_state *state = &service->state;
   if (!state->has_thread && !state->is_forked && !state->is_closing && !otel_private_start_thread(service)) {
     otel_private_say(service);
@@ -176,9 +183,10 @@ void otel_service_unlock(otel_service *service) {
 }
 
 size_t otel_service_ignored_settings(otel_service *service, char *buffer, size_t room) {
-  size_t length = service->ignored.length, written = length < room ? length : room - 1;
+  const otel_private_text none = {0}, *ignored = service == NULL ? &none : &service->ignored;
+  size_t length = ignored->length, written = length < room ? length : room - 1;
   if (room > 0) {
-    memcpy(buffer, otel_private_shown(&service->ignored), written);
+    memcpy(buffer, otel_private_shown(ignored), written);
     buffer[written] = '\0';
   }
   return length;
@@ -206,6 +214,10 @@ uint32_t otel_service_count(otel_service *service, otel_service_numbers *numbers
   if (numbers_size != sizeof *numbers) {
     return OTEL_BAD_ARGUMENT;
   }
+  if (service == NULL) {
+    *numbers = (otel_service_numbers){0};
+    return OTEL_CLOSED;
+  }
   lock(service);
   count(service, numbers);
   pthread_mutex_unlock(&service->mutex);
@@ -219,6 +231,9 @@ static bool is_settled(const otel_service *service, uint64_t put) {
 
 uint32_t otel_service_flush(otel_service *service, uint64_t milliseconds) {
   uint64_t until = otel_private_after(milliseconds);
+  if (service == NULL) {
+    return OTEL_CLOSED;
+  }
   lock(service);
   bool is_taken = !service->state.is_forked && otel_private_take(service, true);
   uint64_t put = service->put_lines;
@@ -276,6 +291,9 @@ static uint32_t settle(otel_service *service) {
 }
 
 uint32_t otel_service_close(otel_service *service, uint64_t milliseconds) {
+  if (service == NULL) {
+    return OTEL_CLOSED;
+  }
   otel_private_state *state = &service->state;
   pthread_mutex_lock(&service->mutex);
   if (state->is_closing || state->is_closed) {

@@ -21,6 +21,8 @@
    parent's alone to end; in the child they are parents still. This asks for a C library in which such a child may take
    memory, as glibc. A thread does not fork between otel_service_lock and otel_service_unlock.
 
+   A service that did not open is NULL: calls take that too, and do nothing, so that a program goes on without tracing.
+
    Texts end in a zero, and NULL is an empty text. Times are milliseconds. */
 #ifndef OTEL_SERVICE_H
 #define OTEL_SERVICE_H

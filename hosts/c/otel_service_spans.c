@@ -70,7 +70,9 @@ static const otel_attribute *list_of(const otel_attribute *attributes) {
 
 /* Ends a call: counts a failure, and lets go of the lock. */
 static uint32_t leave(otel_service *service, uint32_t status) {
-  service->numbers.failed_calls += status == OTEL_OK ? 0 : 1;
+  if (service != NULL && status != OTEL_OK) {
+    service->numbers.failed_calls++;
+  }
   otel_service_unlock(service);
   return status;
 }

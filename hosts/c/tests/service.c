@@ -343,6 +343,35 @@ static void do_late(const work_plan *plan) {
   otel_service_free(service);
 }
 
+/* Makes each call on a service that did not open. */
+static void do_none(const work_plan *plan) {
+  work_plan bad = *plan;
+  otel_service *none;
+  otel_service_numbers numbers;
+  char names[8] = "x";
+  uint64_t key;
+  bad.options.endpoint = "no URL";
+  hold(otel_service_open(&none, &bad.options) == OTEL_SERVICE_BAD_ENDPOINT && none == NULL, "it did not open");
+  hold_passing(none);
+  trace_all(none, plan->spans);
+  otel_service_span span = otel_service_start(none, OTEL_SERVER, "GET", NULL, 0);
+  span.key = 1;
+  hold(otel_service_set_text(none, span, "key", "value") == OTEL_CLOSED, "edits do nothing");
+  hold(otel_service_record_exception(none, span, "type", "message", NULL) == OTEL_CLOSED, "so do exceptions");
+  hold(otel_service_add_link(none, span, span, NULL, 0) == OTEL_CLOSED, "and links");
+  hold(otel_service_update_name(none, span, "POST") == OTEL_CLOSED, "and names");
+  hold(otel_service_end(none, span) == OTEL_CLOSED && otel_service_abandon(none, span) == OTEL_CLOSED, "and ends");
+  hold(otel_start(otel_service_lock(none), 0, 0, OTEL_SERVER, (const uint8_t *)"GET", 3, 1, &key) == OTEL_CLOSED,
+       "its handle is not open");
+  otel_service_unlock(none);
+  hold(otel_service_flush(none, 10000) == OTEL_CLOSED, "there is nothing to flush");
+  hold(otel_service_count(none, &numbers, sizeof numbers) == OTEL_CLOSED && numbers.ended_spans == 0,
+       "nothing is counted");
+  hold(otel_service_ignored_settings(none, names, sizeof names) == 0 && names[0] == '\0', "nothing was ignored");
+  hold(otel_service_close(none, 10000) == OTEL_CLOSED, "it is closed");
+  otel_service_free(none);
+}
+
 /* Works while a request for memory is refused: the service does not open and says why, or all spans are counted. */
 static void do_refused(const work_plan *plan) {
   otel_service *service;
@@ -397,7 +426,8 @@ int main(int count, char **words) {
   } works[] = {
       {"plain", do_plain}, {"flush", do_flush},     {"threads", do_threads}, {"calls", do_calls},
       {"fork", do_fork},   {"forks", do_forks},     {"exit", do_exit},       {"idle_children", do_idle_children},
-      {"open", do_open},   {"headers", do_headers}, {"late", do_late},       {"refused", do_refused}};
+      {"open", do_open},   {"headers", do_headers}, {"late", do_late},
+      {"none", do_none},   {"refused", do_refused}};
   work_plan plan = {otel_service_options_of_defaults(), 100, 5000};
   for (int i = 2; i < count; i++) {
     hold(read_word(&plan, words[i]), "each word is known");
