@@ -11,6 +11,7 @@ PARTS = ("MAJOR", "MINOR", "PATCH")
 PLACES = (
     ("hosts/c/otel_shared.hpp", r'\bVERSION = "([^"]*)"'),
     ("hosts/rust/Cargo.toml", r'(?m)^version = "([^"]*)"'),
+    ("hosts/rust/tracing/Cargo.toml", r'(?m)^version = "([^"]*)"'),
     ("hosts/python/otel_proved/__init__.py", r'(?m)^__version__ = "([^"]*)"'),
     ("hosts/python/pyproject.toml", r'(?m)^version = "([^"]*)"'),
 )
