@@ -262,7 +262,7 @@ class Pipeline(Starter, _fork.Renewed):
             warn("spans that were open when their pipeline was closed, and that are lost: %d", open_spans)
         return lines
 
-    def left_spans(self) -> int:
+    def _left_spans(self) -> int:
         """How many spans would be lost if the program ended now."""
         if self.is_closed or self._handle.is_foreign:
             return 0
@@ -310,7 +310,7 @@ def _say_what_is_left() -> None:
     lost = sum(left_behind)
     for pipeline in [it() for it in _opened]:
         with contextlib.suppress(OtelError):
-            lost += pipeline.left_spans() if pipeline is not None else 0
+            lost += pipeline._left_spans() if pipeline is not None else 0
     if lost:
         warn("spans that nobody ended or drained before the end, and that are lost: %d", lost)
 

@@ -17,7 +17,7 @@ from otel_proved._exporters import Both
 from otel_proved._posting import Answer, Outcome
 
 from .support import SHORT, Collector, spans_in
-from .test_sender import PATIENCE, SenderTest
+from .test_sender import PATIENCE, SenderTest, until
 
 OTLP = "OTEL_EXPORTER_OTLP_"
 
@@ -121,6 +121,7 @@ class Secured(SenderTest):
     def test_another_one_is_not(self):
         is_sent, sender = self.is_sent(self.secured().url, 0.5)
         self.assertFalse(is_sent)
+        until(lambda: sender.last_failure)
         self.assertIn("certificate", sender.last_failure)
 
     def test_a_collector_may_want_one_too(self):

@@ -177,6 +177,7 @@ PROGRAM = f"""
     thread.join()
     counts = pipeline.counts()
     print(counts.open_spans, pipeline.failed_calls, counts.waiting_spans - len(handled) - len(traced), len(handled) > 9)
+    pipeline.close()
 """
 
 
