@@ -158,7 +158,7 @@ static void lock(otel_service *service) {
 }
 
 otel_handle *otel_service_lock(otel_service *service) {
-  static otel_handle never_opened;
+  static _Thread_local otel_handle never_opened;
   if (service == NULL) {
     return &never_opened;
   }
