@@ -165,10 +165,10 @@ pub extern "C" fn otel_add_remote_link_with(
 ) -> u32
     ensures { Answers result (λ p q. InPlaceOfGathered (AreAttributesOf attributes.now) (λ a b.
         LinksToRemote a span (record {
-      traceparent = traceparent.now;
-      tracestate = tracestate.now;
-      baggage = [];
-    }) b) p.inside q.inside) (λ p q. Stays p.inside q.inside) handle.old.held.pipeline handle.new.held.pipeline }
+          traceparent = traceparent.now;
+          tracestate = tracestate.now;
+          baggage = [];
+        }) b) p.inside q.inside) (λ p q. Stays p.inside q.inside) handle.old.held.pipeline handle.new.held.pipeline }
 {
     let Some(mut pipeline) = handle.take(alloc) else {
         return OTEL_CLOSED;

@@ -62,8 +62,10 @@ IsProcessorOver exporter kind strings made = MatchKind kind (made ≡ processors
 
 -- strings whose resource says first that this library made it, for C; what their own attributes say comes later, and wins
 abbrev pub naming_library : PlainConfigStrings → PlainConfigStrings
-naming_library strings = record strings { resource = record strings.resource
-    { attributes = Some (LIBRARY.now ++ unwrap_or strings.resource.attributes []) } }
+naming_library strings = record strings {
+  resource = record strings.resource
+      { attributes = Some (LIBRARY.now ++ unwrap_or strings.resource.attributes []) };
+}
 
 -- a pipeline that settings open by strings and a seed: over an exporter in memory that stores nothing yet and may keep so
 -- many spans

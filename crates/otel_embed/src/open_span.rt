@@ -41,7 +41,9 @@ impl OpenSpan {
         ensures { IfOk result (λ cx. cx ≡ context_of self.now) }
     {
         let span_context = self.span.span_context();
-        if span_context.trace_id() == TraceId::INVALID || span_context.span_id() == SpanId::INVALID {
+        if span_context.trace_id() == TraceId::INVALID
+            || span_context.span_id() == SpanId::INVALID
+        {
             return self.cx.clone();
         }
         context_inside(&self.cx, &self.span)

@@ -44,13 +44,21 @@ pub struct Refusal<'w> {
 }
 
 pub const MODE: &str = "a mode: trace, steps, otlp, picture, svg, view, help or version";
+
 pub const SEED: &str = "SEED, a whole number below 2^64";
+
 pub const PROCESSOR: &str = "simple, or batch Q B";
+
 pub const NUMBER: &str = "a whole number below 2^64";
+
 pub const COLUMNS: &str = "COLUMNS, from 20 to 400";
-pub const FORM: &str = "COLUMNS, from 20 to 400, svg or json";
+
+pub const FORM: &str = "COLUMNS, from 20 to 400, svg, json or html";
+
 pub const CHOICE: &str = "--errors, --slowest N, --trace ID or --attributes";
+
 pub const ID: &str = "an ID of 32 digits 0-9 a-f";
+
 pub const NOTHING: &str = "no more words";
 
 /// What is said of arguments that ask for nothing.
