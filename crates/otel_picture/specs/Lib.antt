@@ -10,6 +10,7 @@ pub mod HtmlJson
 pub mod HtmlRows
 pub mod HtmlTexts
 pub mod Layouts
+pub mod Odd
 pub mod Orders
 pub mod Parents
 pub mod Placed

@@ -13,6 +13,7 @@ use Rattle.otel_picture.specs.Details.{details_text}
 use Rattle.otel_picture.specs.Durations.{duration_text}
 use Rattle.otel_picture.specs.Drawn.{PlainTraces}
 use Rattle.otel_picture.specs.Layouts.{layout_with}
+use Rattle.otel_picture.specs.Odd.{odd_of, odd_text}
 use Rattle.otel_picture.specs.PlainSheets.{PlainSheet, errors_in, first_service, is_error, is_orphan, row_mark}
 use Rattle.otel_picture.specs.PlainSheets.{row_span, sheet_column, sheet_of}
 use Rattle.otel_picture.specs.Texts.{at_right, cut_text, in_room, shown_text, times}
@@ -118,7 +119,8 @@ module _ (sheet : PlainSheet) where
 
   -- those lines
   abbrev pub under_text : Row → List ℕ
-  under_text row = details_text (under_of row) (row_span sheet row)
+  under_text row =
+      odd_text (under_of row) (odd_of sheet row) ++ details_text (under_of row) (row_span sheet row)
 
   -- the row of a span, by how long none of its children ran, and the lines under it
   abbrev pub row_text : Row → ℕ → List ℕ

@@ -108,7 +108,12 @@ pub(crate) struct Under {
 
 impl Under {
     /// Appends a line: a sign and a blank, and a text that is cut at the edge.
-    fn push_line(self, text: &mut String, sign: &str, said: &str) -> Result<(), AllocError>
+    pub(crate) fn push_line(
+        self,
+        text: &mut String,
+        sign: &str,
+        said: &str,
+    ) -> Result<(), AllocError>
         ensures { OnOk result (TextGrows text.old (detail_text self sign.now said.now) text.new) }
     {
         push_times(text, ' ', self.indent)?;

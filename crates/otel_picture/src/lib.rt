@@ -10,7 +10,7 @@
 //! before one whose parent is not in the picture, `@` and the service after it where a trace has several, and the kind
 //! where it is not internal. A name is cut by the columns that it takes, with an ellipsis. `·` in a bar is an event, `!`
 //! before it says that the span failed, and what went wrong stands on a line of its own, after `!`, as an exception does,
-//! after `*`, and a link, after `>`, which stands before the name too. Of a circle of parents the first span stands as a
+//! after `*`, a link, after `>`, which stands before the name too, and what is odd, after `?`. Of a circle of parents the first span stands as a
 //! root.
 #![tactic(auto)]
 
@@ -27,6 +27,7 @@ mod html_style;
 mod html_trace;
 pub mod laws;
 pub mod layout;
+mod odd;
 mod roots;
 mod row_text;
 pub mod rows;

@@ -31,6 +31,7 @@ ghost use Rattle.otel_picture.specs.Sheets.{plain_sheet};
 use crate::bar::{Bar, self_times};
 use crate::details::Under;
 use crate::durations::push_duration;
+use crate::odd::push_odd;
 use crate::rows::Row;
 use crate::sheet::{Sheet, is_error};
 use crate::texts::{push_at_right, push_cut, push_in_room, push_shown, push_times};
@@ -264,8 +265,9 @@ impl Sheet<'_> {
         requires { row.span < length self.now.trace.now.family.marks.items }
         ensures { OnOk result (TextGrows text.old (under_text (plain_sheet self.now) row) text.new) }
     {
-        let span = self.span_of(row);
-        self.under_of(row).push_details(alloc, text, span)
+        let under = self.under_of(row);
+        push_odd(text, under, self.odd_of(row))?;
+        under.push_details(alloc, text, self.span_of(row))
     }
 
     /// The row of a span, by the time without the children, and the lines under it.

@@ -1,4 +1,5 @@
-//! The lines under the row of a span in the SVG form: its exceptions and its links, in one text that goes on downwards.
+//! The lines under the row of a span in the SVG form: what is odd, its exceptions and its links, in one text that goes on
+//! downwards.
 
 ghost use Rattle.std.specs.Prelude.{◌≡◌, ◌<◌, ◌≤◌, OnOk, length};
 ghost use Rattle.std.specs.List.{flat_map};
@@ -12,12 +13,16 @@ ghost use Rattle.otel_picture.specs.SvgNotes.{
   line_after_rows,
   link_note,
   note_svg,
+  notes_head,
   notes_svg,
   notes_text,
+  odd_note,
+  odd_notes,
   svg_notes,
 };
 
 use crate::details::{exception_of, is_exception, link_of};
+use crate::odd::Odd;
 use crate::rows::Row;
 use crate::sheet::Sheet;
 use crate::svg_parts::{down, line_after};
@@ -110,36 +115,81 @@ fn push_link_notes(
     Ok(())
 }
 
+/// Appends a line that says what is odd, where it is so.
+fn push_odd_note(
+    alloc: Global,
+    out: &mut String,
+    indent: usize,
+    is_so: bool,
+    said: &str,
+) -> Result<(), AllocError>
+    requires { indent ≤ 10 }
+    ensures { OnOk result (TextGrows out.old (odd_note indent is_so said.now) out.new) }
+{
+    if is_so {
+        return push_note(alloc, out, indent, "? ", said);
+    }
+    Ok(())
+}
+
+/// Appends what is odd, a line each.
+#[tactic(auto, unfolding(crate::specs::SvgNotes::odd_notes))]
+fn push_odd_notes(
+    alloc: Global,
+    out: &mut String,
+    indent: usize,
+    odd: Odd,
+) -> Result<(), AllocError>
+    requires { indent ≤ 10 }
+    ensures { OnOk result (TextGrows out.old (odd_notes indent odd) out.new) }
+{
+    push_odd_note(alloc, out, indent, odd.no_start, "no start")?;
+    push_odd_note(alloc, out, indent, odd.no_end, "no end")?;
+    push_odd_note(alloc, out, indent, odd.is_backward, "ends before it starts")?;
+    push_odd_note(alloc, out, indent, odd.in_circle, "in a circle of parents")
+}
+
 /// Appends the lines under the row of a span.
 #[tactic(auto, unfolding(crate::specs::SvgNotes::notes_text))]
 fn push_notes(
     alloc: Global,
     out: &mut String,
     indent: usize,
+    odd: Odd,
     span: &ShownSpan,
 ) -> Result<(), AllocError>
     requires { indent ≤ 10 }
-    ensures { OnOk result (TextGrows out.old (notes_text indent span.now) out.new) }
+    ensures { OnOk result (TextGrows out.old (notes_text indent odd span.now) out.new) }
 {
+    push_odd_notes(alloc, out, indent, odd)?;
     push_event_notes(alloc, out, indent, &span.events)?;
     push_link_notes(alloc, out, indent, &span.links)
 }
 
-/// Appends a text that goes on under its line.
-#[tactic(auto, unfolding(crate::specs::SvgNotes::notes_svg))]
+/// Appends the beginning of a text that goes on under its line.
+#[tactic(auto, unfolding(crate::specs::SvgNotes::notes_head))]
+fn push_notes_head(out: &mut String, y: u64) -> Result<(), AllocError>
+    ensures { OnOk result (TextGrows out.old (notes_head y) out.new) }
+{
+    write!(out, "<text x=\"10\" y=\"{y}\" xml:space=\"preserve\">")
+}
+
+/// Appends that text.
 fn push_notes_text(
     alloc: Global,
     out: &mut String,
     indent: usize,
     y: u64,
+    odd: Odd,
     span: &ShownSpan,
 ) -> Result<(), AllocError>
     requires { indent ≤ 10 }
-    ensures { OnOk result (TextGrows out.old (notes_svg indent y span.now) out.new) }
+    ensures { OnOk result (TextGrows out.old (notes_svg indent y odd span.now) out.new) }
 {
-    write!(out, "<text x=\"10\" y=\"{y}\" xml:space=\"preserve\">")?;
-    push_notes(alloc, out, indent, span)?;
-    out.push_str("</text>")
+    push_notes_head(out, y)?;
+    push_notes(alloc, out, indent, odd, span)?;
+    out.push_str("</text>")?;
+    Ok(())
 }
 
 /// How many exceptions are among events.
@@ -168,10 +218,11 @@ impl Sheet<'_> {
         ensures { OnOk result (TextGrows out.old (svg_notes (plain_sheet self.now) line row) out.new) }
     {
         let span = self.span_of(row);
-        if exceptions_in(&span.events) == 0 && span.links.len() == 0 {
+        let odd = self.odd_of(row);
+        if odd.lines() == 0 && exceptions_in(&span.events) == 0 && span.links.len() == 0 {
             return Ok(());
         }
-        push_notes_text(alloc, out, row.level.min(10), down(line, 15), span)
+        push_notes_text(alloc, out, row.level.min(10), down(line, 15), odd, span)
     }
 
     /// The line after a row.
@@ -180,9 +231,9 @@ impl Sheet<'_> {
         ensures { result ≡ line_after_row (plain_sheet self.now) line row }
     {
         let span = self.span_of(row);
+        let odd = line_after(line_after(line, 1), self.odd_of(row).lines());
         let exceptions = exceptions_in(&span.events) as u64;
-        let links = span.links.len() as u64;
-        line_after(line_after(line_after(line, 1), exceptions), links)
+        line_after(line_after(odd, exceptions), span.links.len() as u64)
     }
 
     /// The line after all rows, of which the first is this one.
