@@ -55,7 +55,8 @@ item_text (lists.ResourceAttributes resource) number =
 item_text (lists.ScopeSpans resource) number =
     codes "scope " ++ (decimal number ++ (codes " of resource " ++ decimal resource))
 item_text (lists.Spans resource scope) number =
-    codes "span " ++ (decimal number ++ (codes " of scope " ++ (decimal scope ++ (codes " of resource " ++ decimal resource))))
+    codes "span " ++ (decimal number ++ (codes " of scope " ++ (decimal scope
+    ++ (codes " of resource " ++ decimal resource))))
 item_text (lists.SpanAttributes span_id) number =
     codes "attribute " ++ (decimal number ++ (codes " of span " ++ hex_text 16 span_id))
 item_text (lists.SpanEvents span_id) number =

@@ -1,7 +1,6 @@
 -- One trace more, which those after it go with.
-use Rattle.std.proofs.Common.{◌<◌, ◌++◌, ◌∙◌, All, List, ap, length, map, subst}
+use Rattle.std.proofs.Common.{◌<◌, ◌++◌, ◌∙◌, All, ap, length, map, subst}
 use Rattle.std.proofs.lemmas.List.Elements.{All-head, All-rest}
-use Rattle.json.specs.Token.{Token}
 use Rattle.otel_picture.specs.HtmlRows.{trace_tokens, traces_tokens}
 use Rattle.otel_picture.specs.Layouts.{svg_layout}
 use Rattle.otel_picture.specs.PlainSheets.{PlainSheet, sheet_of}
