@@ -168,10 +168,9 @@ uint32_t otel_version(uint32_t *major, uint32_t *minor, uint32_t *patch);
    span that fills a batch exports it: the default) or `simple` (each end exports). OTEL_C_MAX_UNDRAINED_SPANS says how
    many exported spans are kept at most until a drain makes lines of them, 65536 where it is not set; a batch past that
    is lost, and counted. Lines that had no room in a buffer are kept beside them, and no others are made until they are
-   handed out. The resource names the SDK that the pipeline follows; to say who you are, set OTEL_RESOURCE_ATTRIBUTES to
-   telemetry.sdk.name=otel_proved,telemetry.sdk.language=c and the like, as otel_service.h does. The seed decides all
-   ids: every process needs one of its own. OTEL_ALREADY_OPEN where the handle is open,
-   OTEL_NOT_UTF8 where the settings are not UTF-8. */
+   handed out. The resource says otel_proved, c and the version as telemetry.sdk.name, .language and .version, unless
+   OTEL_RESOURCE_ATTRIBUTES says others. The seed decides all ids: every process needs one of its own. OTEL_ALREADY_OPEN
+   where the handle is open, OTEL_NOT_UTF8 where the settings are not UTF-8. */
 uint32_t otel_open(otel_handle *handle, const uint8_t *settings, size_t settings_length, uint64_t seed);
 
 /* Writes the names of the settings that were ignored, since nobody knows their name or their value does not read, each
@@ -263,8 +262,9 @@ uint32_t otel_set_status(otel_handle *handle, uint64_t span, uint32_t code, cons
 uint32_t otel_update_name(otel_handle *handle, uint64_t span, const uint8_t *name, size_t name_length);
 
 /* Writes the headers traceparent, tracestate and baggage that hand the span on to another process, as far as there is
-   something to say: each `name: value` with a carriage return and a line feed after it. OTEL_BUFFER_TOO_SMALL where the
-   buffer has no room for all; *length is what they take. */
+   something to say: each `name: value` with a carriage return and a line feed after it. A span that was started after a
+   shutdown passes its parent on. OTEL_BUFFER_TOO_SMALL where the buffer has no room for all; *length is what they
+   take. */
 uint32_t otel_inject(otel_handle *handle, uint64_t span, uint8_t *buffer, size_t buffer_length, size_t *length);
 
 /* Ends a span, which is handed on for export where it is sampled. Its key names nothing from then on. */
