@@ -34,7 +34,7 @@ impl Model for ReadSpan {
 }
 
 /// A span of a service.
-#[tactic(auto, unfolding(crate::specs::SpanParts::span_in))]
+#[tactic(auto, unfolding(crate::specs::SpanParts::span_in, crate::specs::Members::own_name))]
 pub(crate) fn span(alloc: Global, service: &str, span: &Value) -> Result<ReadSpan, ReadError>
     ensures { Gives (λ span. span) result (span_in service.now (value_view span.now)) }
 {

@@ -179,7 +179,7 @@ fn push_bytes(out: &mut String, value: &Value) -> Result<(), ReadError>
 }
 
 /// Appends the text of a value that is no list; nothing where it has no kind.
-#[tactic(auto, unfolding(crate::specs::AnyValue::shown_scalar))]
+#[tactic(auto, unfolding(crate::specs::AnyValue::shown_scalar, crate::specs::Members::own_name))]
 fn push_scalar(out: &mut String, value: &Value, is_quoted: bool) -> Result<(), ReadError>
     ensures { Gives (λ _. string_bytes out.new) result
         (grown (string_bytes out.old) (shown_scalar is_quoted (value_view value.now))) }
@@ -236,7 +236,7 @@ pub(crate) fn push_value(
 
 /// The same, where this is how deep the lists in its items may nest.
 #[cycle(value)]
-#[tactic(auto, unfolding(crate::specs::AnyValue::shown_with))]
+#[tactic(auto, unfolding(crate::specs::AnyValue::shown_with, crate::specs::Members::own_name))]
 fn push_with(
     out: &mut String,
     value: &Value,
