@@ -19,13 +19,13 @@ views_by view s notes Silent Says status h (inl one) = record {
 }
 views_by view s notes Silent Says status h (inr (inl none, told)) = record {
   small = omega (arith, none.0);
-  done = λ e. (notes, none.1, h, told);
+  done = λ e. (notes, none.1, (h, told));
   named = λ e. absurd (omega (arith, none.0, e));
   failed = λ e. absurd (omega (arith, none.0, e));
 }
 views_by view s notes Silent Says status h (inr (inr some, told)) = record {
   small = omega (arith, some.0);
   done = λ e. absurd (omega (arith, some.0, e));
-  named = λ e. (notes, some.1, h, told);
+  named = λ e. (notes, some.1, (h, told));
   failed = λ e. absurd (omega (arith, some.0, e));
 }

@@ -21,14 +21,22 @@ narrowed word value old =
     (if bytes_eq word (codes "--trace")
     then option_map (λ id. record old { trace_id = Some id }) (trace_id_in value) else None)
 
+-- a choice with what a word adds by itself, if it does
+unfoldable pub flagged : List ℕ → Choice → Option Choice
+flagged word old =
+    if bytes_eq word (codes "--errors") then Some (record old { errors_only = true }) else
+    (if bytes_eq word (codes "--attributes") then Some (record old { attributes = true }) else None)
+
+-- what is chosen on where there is a choice; else another
+abbrev pub on_or : Option Choice → (Choice → Option Choice) → Option Choice → Option Choice
+on_or None on other = other
+on_or (Some choice) on other = on choice
+
 -- what words choose, after what was chosen before them
 abbrev mutual
   pub chosen : List (List ℕ) → Choice → Option Choice
   chosen [] old = Some old
-  chosen (word ∷ after) old =
-      if bytes_eq word (codes "--errors") then chosen after (record old { errors_only = true }) else
-      (if bytes_eq word (codes "--attributes") then chosen after (record old { attributes = true })
-      else chosen_by word after old)
+  chosen (word ∷ after) old = on_or (flagged word old) (chosen after) (chosen_by word after old)
 
   pub chosen_by : List ℕ → List (List ℕ) → Choice → Option Choice
   chosen_by word [] old = None

@@ -135,12 +135,17 @@ wanted_text wants.Choice = CHOICE.now
 wanted_text wants.TraceId = ID.now
 wanted_text wants.Nothing = NOTHING.now
 
+unfoldable pub word_line : List ℕ → List ℕ
+word_line text = codes "cannot read the word: " ++ (text ++ codes "\n")
+
+unfoldable pub wanted_line : Wanted → List ℕ
+wanted_line wanted = codes "wanted: " ++ (wanted_text wanted ++ codes "\n")
+
 -- what is said of it, after the usage
 abbrev pub wrong_text : Option PlainWrong → List ℕ
 wrong_text None = []
-wrong_text (Some (word text wanted)) =
-    codes "cannot read the word: " ++ (text ++ 10 ∷ codes "wanted: " ++ (wanted_text wanted ++ 10 ∷ []))
-wrong_text (Some (end wanted)) = codes "wanted: " ++ (wanted_text wanted ++ 10 ∷ [])
+wrong_text (Some (word text wanted)) = word_line text ++ wanted_line wanted
+wrong_text (Some (end wanted)) = wanted_line wanted
 
 -- what is said of arguments that ask for nothing: a usage, and what is wrong with them
 abbrev pub refusal_text : Refusal → List ℕ

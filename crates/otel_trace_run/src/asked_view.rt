@@ -1,7 +1,7 @@
 //! Views of traces, and how the program's arguments ask for one.
 
 ghost use Rattle.std.specs.Prelude.{◌≡◌, map, string_bytes};
-ghost use Rattle.otel_trace_run.specs.AskedViews.{chosen, form_in, narrowed, view_in, viewed};
+ghost use Rattle.otel_trace_run.specs.AskedViews.{chosen, flagged, form_in, narrowed, view_in, viewed};
 ghost use Rattle.otel_trace_run.specs.Words.{trace_id_in};
 
 use crate::mode::columns_of;
@@ -76,26 +76,31 @@ fn choose(words: &[String], begun: Choice) -> Option<Choice>
     let Some((word, after)) = words.split_first() else {
         return Some(begun);
     };
-    if word.as_str() == "--errors" {
-        return choose(
-            after,
-            Choice {
-                errors_only: true,
-                ..begun
-            },
-        );
-    }
-    if word.as_str() == "--attributes" {
-        return choose(
-            after,
-            Choice {
-                attributes: true,
-                ..begun
-            },
-        );
+    if let Some(choice) = flagged(word.as_str(), begun) {
+        return choose(after, choice);
     }
     let (value, rest) = after.split_first()?;
     choose(rest, narrow(word.as_str(), value.as_str(), begun)?)
+}
+
+/// A choice with what a word adds by itself; none where it adds nothing so.
+#[tactic(auto, unfolding(crate::specs::AskedViews::flagged))]
+fn flagged(word: &str, begun: Choice) -> Option<Choice>
+    ensures { result ≡ flagged word.now begun }
+{
+    if word == "--errors" {
+        Some(Choice {
+            errors_only: true,
+            ..begun
+        })
+    } else if word == "--attributes" {
+        Some(Choice {
+            attributes: true,
+            ..begun
+        })
+    } else {
+        None
+    }
 }
 
 /// A choice with what a word and the one after it add; none where they add nothing.

@@ -1,11 +1,13 @@
 //! Which word of arguments that ask for nothing does not read, and what is wanted in its place.
 
-ghost use Rattle.std.specs.Prelude.{◌≡◌, IfOk, map, string_bytes};
+ghost use Rattle.std.specs.Prelude.{◌≡◌, IfOk, OnOk, Some, map, option_map, string_bytes};
 ghost use Rattle.std.specs.Result.{result_map_both};
 ghost use Rattle.otel_trace_run.specs.WrongWords.{pass_asked, pass_choices, pass_columns, pass_help, pass_mode};
 ghost use Rattle.otel_trace_run.specs.WrongWords.{pass_nothing, pass_number, pass_one, pass_processor, pass_view};
+ghost use Rattle.opentelemetry.specs.Text.{TextGrows};
 ghost use Rattle.otel_trace_run.specs.WrongWords.{pass_words, plain_wrong, refusal_in, refusal_text, wanted_after};
-ghost use Rattle.otel_trace_run.specs.WrongWords.{wanted_text};
+ghost use Rattle.otel_trace_run.specs.WrongWords.{wanted_line, wanted_text, word as wrong_word, word_line};
+ghost use Rattle.otel_trace_run.specs.WrongWords.{wrong_text};
 
 use crate::asked_view::{form_of, narrow};
 use crate::mode::{columns_of, encoding_of};
@@ -13,6 +15,7 @@ use crate::pages::{is_help, is_version, page_of_mode, usage_for};
 use otel_picture::choice::EVERY;
 use otel_trace_lines::fields::parse_decimal;
 use std::alloc::{AllocError, Global};
+use std::fmt::Write;
 
 /// What is wanted where a word does not read, or where there is none.
 #[derive(Clone, Copy, Debug, PartialEq, Eq)]
@@ -74,18 +77,47 @@ pub(crate) fn refusal_of(words: &[String]) -> Refusal<'_>
 pub(crate) fn text_of(alloc: Global, refusal: Refusal<'_>) -> Result<String, AllocError>
     ensures { IfOk result (λ text. string_bytes text ≡ refusal_text refusal.entry) }
 {
-    let usage = refusal.usage;
-    match refusal.wrong {
-        None => format!(in alloc; "{usage}"),
-        Some(Wrong::Word(text, wanted)) => {
-            let wants = wanted_text(wanted);
-            format!(in alloc; "{usage}cannot read the word: {text}\nwanted: {wants}\n")
-        }
-        Some(Wrong::End(wanted)) => {
-            let wants = wanted_text(wanted);
-            format!(in alloc; "{usage}wanted: {wants}\n")
-        }
+    let mut text = String::from_str(alloc, refusal.usage)?;
+    push_wrong(&mut text, refusal.wrong)?;
+    Ok(text)
+}
+
+/// Appends what is wrong, if anything is.
+#[tactic(auto, using(std::proofs::lemmas::List::append_assoc))]
+fn push_wrong(text: &mut String, wrong: Option<Wrong<'_>>) -> Result<(), AllocError>
+    ensures { OnOk result (TextGrows text.old (wrong_text (option_map plain_wrong wrong.entry)) text.new) }
+{
+    match wrong {
+        None => Ok(()),
+        Some(Wrong::Word(word, wanted)) => push_word(text, word, wanted),
+        Some(Wrong::End(wanted)) => push_wanted(text, wanted),
     }
+}
+
+/// Appends the word that does not read, and what is wanted.
+#[tactic(auto, using(std::proofs::lemmas::List::append_assoc))]
+fn push_word(text: &mut String, word: &str, wanted: Wanted) -> Result<(), AllocError>
+    ensures { OnOk result (TextGrows text.old (wrong_text (Some (wrong_word word.now wanted))) text.new) }
+{
+    push_word_line(text, word)?;
+    push_wanted(text, wanted)
+}
+
+/// Appends the line of that word.
+#[tactic(auto, unfolding(crate::specs::WrongWords::word_line))]
+fn push_word_line(text: &mut String, word: &str) -> Result<(), AllocError>
+    ensures { OnOk result (TextGrows text.old (word_line word.now) text.new) }
+{
+    write!(text, "cannot read the word: {word}\n")
+}
+
+/// Appends what is wanted.
+#[tactic(auto, unfolding(crate::specs::WrongWords::wanted_line))]
+fn push_wanted(text: &mut String, wanted: Wanted) -> Result<(), AllocError>
+    ensures { OnOk result (TextGrows text.old (wanted_line wanted) text.new) }
+{
+    let wants = wanted_text(wanted);
+    write!(text, "wanted: {wants}\n")
 }
 
 /// What is wanted, in words.
