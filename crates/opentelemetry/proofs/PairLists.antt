@@ -1,7 +1,8 @@
 -- Walking over a list of pairs.
-use Rattle.std.proofs.Common.{◌≡◌, ℕ, ◌+◌, ◌<◌, not, cond, List, [], ◌∷◌, ◌++◌, length, take, drop, get_or, map, Some, sym, ap, ◌∙◌}
+use Rattle.std.proofs.Common.{◌≡◌, ℕ, ◌+◌, ◌<◌, Bool, true, false, not, cond, List, [], ◌∷◌, ◌++◌, length, take, drop, get_or, map, Some, refl, sym, ap, ◌∙◌}
 use Rattle.std.proofs.lemmas.List.{take-append-drop, take_more, drop_more, map-append}
 use Rattle.std.proofs.lemmas.List.Elements.{filter-append}
+use Rattle.std.specs.List.{filter}
 use Rattle.opentelemetry.specs.Same.{same_text}
 use Rattle.opentelemetry.specs.Tracestate.{first_of_two, first_pair_fault, pair_fault, value_of_key, without_key}
 
@@ -30,3 +31,12 @@ module _ {X : Type 0} (t : X → List ℕ × List ℕ) (xs : List X) (i : ℕ) (
       ∙ ap (λ l. without_key key l) (map-append t (take i xs) (x ∷ drop (i + 1) xs))
       ∙ filter-append _ (map t (take i xs)) (t x ∷ map t (drop (i + 1) xs))
       ∙ ap (λ l. without_key key (map t (take i xs)) ++ l) (filter-append (λ pair. not (same_text pair.0 key)) (t x ∷ []) (map t (drop (i + 1) xs)))
+
+-- the plain pairs of those that have another key
+pub plain_without : {X : Type 0} (t : X → List ℕ × List ℕ) (key : List ℕ) (xs : List X) → map t (filter (λ x. not (same_text (t x).0 key)) xs) ≡ without_key key (map t xs)
+plain_without t key [] = refl
+plain_without t key (x ∷ xs) = by (not (same_text (t x).0 key)) (plain_without t key xs)
+  where
+    by : (b : Bool) → map t (filter (λ y. not (same_text (t y).0 key)) xs) ≡ without_key key (map t xs) → map t (cond b (x ∷ filter (λ y. not (same_text (t y).0 key)) xs) (filter (λ y. not (same_text (t y).0 key)) xs)) ≡ cond b (t x ∷ without_key key (map t xs)) (without_key key (map t xs))
+    by true rest = ap (λ l. t x ∷ l) rest
+    by false rest = rest

@@ -2,7 +2,7 @@
 //! order. Clones share one copy.
 
 ghost use Rattle.std.specs.Prelude.{◌≡◌, ◌≢◌, ℕ, List, [], ◌∷◌, map, string_bytes, option_map};
-ghost use Rattle.std.specs.Prelude.{MatchOption, MatchResult, IfOk, IfErr, OnErr, IsOk, IsTrue, Err};
+ghost use Rattle.std.specs.Prelude.{MatchOption, MatchResult, IfOk, IfErr, OnOk, OnErr, IsOk, IsTrue, Err};
 ghost use Rattle.std.specs.Prelude.{if◌then◌else◌};
 ghost use Rattle.opentelemetry.specs.PlainValues.{plain_pair};
 ghost use Rattle.opentelemetry.specs.Tracestate.{ArePairs, IsTracestate, first_fault, first_pair_fault, is_key};
@@ -12,7 +12,9 @@ mod grammar;
 mod pairs;
 
 use grammar::{is_key, pair_fault, text_fault};
-use pairs::{first_pair_fault, header, read_members, value_of_key, with_pair, without_key};
+use pairs::{
+    first_pair_fault, header, put_in_front, read_members, value_of_key, with_pair, without_key,
+};
 use std::alloc::{AllocError, Global};
 use std::marker::Model;
 use std::sync::Arc;
@@ -131,6 +133,35 @@ impl TraceState {
         }
         let pairs = with_pair(alloc, self.entries(), key, value)?;
         Ok(shared(alloc, pairs)?)
+    }
+
+    /// The same in the trace state itself, for many pairs one after another: where no clone shares its pairs, none of
+    /// them is copied. After an error it is as it was.
+    pub fn insert_in_place(
+        &mut self,
+        alloc: Global,
+        key: String,
+        value: String,
+    ) -> Result<(), TraceStateError>
+        ensures value { OnOk result (self.new
+            ≡ (string_bytes key, string_bytes value) ∷ without_key (string_bytes key) self.old) }
+        ensures kept { OnErr result (self.new ≡ self.old) }
+        ensures fault { MatchOption (pair_fault (string_bytes key, string_bytes value))
+            (IfErr result (λ fault. fault ≡ TraceStateError.Memory))
+            (λ fault. result ≡ Err fault) }
+    {
+        if let Some(fault) = pair_fault(key.as_str(), value.as_str()) {
+            return Err(fault);
+        }
+        if let Some(shared) = &mut self.pairs {
+            if let Some(pairs) = Arc::get_mut(shared) {
+                put_in_front(pairs, key, value)?;
+                return Ok(());
+            }
+        }
+        let pairs = with_pair(alloc, self.entries(), key, value)?;
+        *self = shared(alloc, pairs)?;
+        Ok(())
     }
 
     /// A copy without the pairs of the key, which has to be a key. Where no pair is left, this takes no memory.

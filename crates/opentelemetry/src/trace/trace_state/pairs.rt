@@ -1,7 +1,7 @@
 //! Lists of pairs: read from a text, tested, copied without a key, and written as a header.
 
 ghost use Rattle.std.specs.Prelude.{◌≡◌, ◌≢◌, ◌-◌, ◌^◌, min, ◌∷◌, ◌++◌, [], Some, None};
-ghost use Rattle.std.specs.Prelude.{length, map, string_bytes, IfOk, OnOk, OnErr, option_map};
+ghost use Rattle.std.specs.Prelude.{length, map, string_bytes, vec_capacity, IfOk, OnOk, OnErr, option_map, ◌≤◌};
 ghost use Rattle.std.specs.List.{filter};
 ghost use Rattle.opentelemetry.specs.PlainValues.{plain_pair};
 ghost use Rattle.opentelemetry.specs.Text.{TextGrows};
@@ -149,6 +149,33 @@ pub fn with_pair(
     push_others(&mut all, alloc, pairs, key.as_str())?;
     all[0] = (key, value);
     Ok(all)
+}
+
+/// Leaves the pairs that have another key. They keep their room.
+fn retain_others(pairs: &mut Vec<(String, String)>, key: &str)
+    ensures others { map plain_pair pairs.new.items ≡ without_key key.now (map plain_pair pairs.old.items) }
+    ensures fewer { length pairs.new.items ≤ length pairs.old.items }
+    ensures room { vec_capacity pairs.new ≡ vec_capacity pairs.old }
+{
+    pairs.retain(|pair| pair.0.as_str() != key);
+}
+
+/// Puts a pair in front, in the list itself, and takes out those that have its key. After an error the list is as it was.
+pub fn put_in_front(
+    pairs: &mut Vec<(String, String)>,
+    key: String,
+    value: String,
+) -> Result<(), AllocError>
+    ensures ok { OnOk result (map plain_pair pairs.new.items
+        ≡ (string_bytes key, string_bytes value) ∷ without_key (string_bytes key) (map plain_pair pairs.old.items)) }
+    ensures err { OnErr result (pairs.new.items ≡ pairs.old.items) }
+{
+    pairs.reserve(1)?;
+    retain_others(pairs, key.as_str());
+    match pairs.insert(0, (key, value)) {
+        Ok(()) => Ok(()),
+        Err(_) => unreachable!(),
+    }
 }
 
 /// How long a member is, with the comma in front where others stand before it.
