@@ -10,9 +10,9 @@ use Rattle.otel_export.specs.declared.trace.no_exporter.NoExporter.{NoExporter}
 use Rattle.otel_pipeline.specs.Calls.{Calls}
 use Rattle.otel_pipeline.specs.Deliveries.{EachFollows}
 use Rattle.otel_pipeline.specs.FirstProcessor.{stored_of_first}
-use Rattle.otel_pipeline.specs.SimpleProcessor.{SimpleProcessor}
 use Rattle.otel_pipeline.specs.SpanHistory.{Edit}
 use Rattle.otel_pipeline.specs.StartRequest.{StartRequest}
+use Rattle.otel_processors.specs.declared.trace.no_processor.NoProcessor.{NoProcessor}
 use Rattle.otel_processors.specs.declared.trace.processor.ProcessorOf.{ProcessorOf}
 use Rattle.otel_processors.specs.declared.trace.processor.ProcessorOf.TheVariants as kinds
 use Rattle.otel_otlp.specs.Otlp.{otlp_lines}
@@ -76,7 +76,7 @@ abbrev pub HostedExporter : Type 0
 HostedExporter = ExporterOf StoredBatches NoExporter
 
 abbrev pub Hosted : Type 0
-Hosted = ProcessorOf HostedExporter (SimpleProcessor NoExporter)
+Hosted = ProcessorOf HostedExporter NoProcessor
 
 -- whether an exporter is the one in memory
 abbrev pub KeepsInMemory : HostedExporter → Type 0

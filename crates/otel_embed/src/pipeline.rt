@@ -10,10 +10,8 @@ use crate::settings::{ProcessorKind, Settings};
 use opentelemetry::InstrumentationScope;
 use otel_export::trace::{ExporterOf, InMemorySpanExporter, NoExporter};
 use otel_pipeline::trace::provider_builder::config_from_strings;
-use otel_pipeline::trace::{
-    FromExporter, ProviderBuilderOf, ProviderOf, SimpleSpanProcessor, SpanProcessor,
-};
-use otel_processors::trace::ProcessorOf;
+use otel_pipeline::trace::{FromExporter, ProviderBuilderOf, ProviderOf, SpanProcessor};
+use otel_processors::trace::{NoProcessor, ProcessorOf};
 use otel_sampling::trace::{ConfigStrings, IdSourceOf, NoSampler, RandomIdGenerator, SamplerOf};
 use std::alloc::{AllocError, Global};
 use std::marker::Send;
@@ -22,7 +20,7 @@ use std::marker::Send;
 pub type MemoryExporter = ExporterOf<InMemorySpanExporter, NoExporter>;
 
 /// The processor of a host.
-pub type HostProcessor = ProcessorOf<MemoryExporter, SimpleSpanProcessor<NoExporter>>;
+pub type HostProcessor = ProcessorOf<MemoryExporter, NoProcessor>;
 
 /// What a host's starts ask.
 pub type HostSampler = SamplerOf<NoSampler>;

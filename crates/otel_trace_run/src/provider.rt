@@ -10,6 +10,7 @@ use otel_batch::trace::BatchConfigBuilder;
 use otel_export::trace::{ExporterOf, InMemorySpanExporter, NoExporter};
 use otel_pipeline::trace::provider::provider_over;
 use otel_pipeline::trace::{ProviderOf, SimpleSpanProcessor, SpanProcessor};
+use otel_processors::trace::NoProcessor;
 use otel_resource::resource::Resource;
 use otel_sampling::trace::{ConfigOf, NoSampler, RandomIdGenerator, SamplerOf, SpanLimits};
 use std::alloc::{AllocError, Global};
@@ -18,7 +19,7 @@ use std::alloc::{AllocError, Global};
 type TraceExporter = ExporterOf<InMemorySpanExporter, NoExporter>;
 
 /// What the program's provider holds.
-pub type TraceProcessor = ProcessorOf<TraceExporter, SimpleSpanProcessor<NoExporter>>;
+pub type TraceProcessor = ProcessorOf<TraceExporter, NoProcessor>;
 
 /// What the program's provider asks about each span.
 pub type TraceSampler = SamplerOf<NoSampler>;

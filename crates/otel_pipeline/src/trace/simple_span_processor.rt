@@ -4,7 +4,7 @@
 ghost use Rattle.std.specs.Prelude.{◌≡◌};
 ghost use Rattle.otel_pipeline.specs.SimpleProcessor.{first_simple};
 
-use crate::trace::{CountsLeftSpans, Span, SpanBlock, SpanProcessor};
+use crate::trace::{CountsLeftSpans, EmptiedBlock, Span, SpanBlock, SpanProcessor};
 use opentelemetry::Context;
 use otel_export::error::OTelSdkResult;
 use otel_export::trace::{SpanData, SpanExporter, StoresBatches};
@@ -20,6 +20,8 @@ pub struct SimpleSpanProcessor<E> {
     is_shut: bool,
     // It stops at the greatest number.
     failed_exports: u64,
+    // The block of the span before, where the exporter left it.
+    emptied: EmptiedBlock,
     alloc: Global,
 }
 
@@ -44,6 +46,7 @@ impl<E> SimpleSpanProcessor<E> {
             exporter,
             is_shut: false,
             failed_exports: 0,
+            emptied: EmptiedBlock::none(),
             alloc,
         }
     }
@@ -111,10 +114,17 @@ impl<E: SpanExporter> SpanProcessor for SimpleSpanProcessor<E> {
         if self.is_shut || !span.data().span_context.is_sampled() {
             return Ok(());
         }
-        if self.exporter.export(span.into_batch()).is_err() {
+        let mut batch = span.into_batch();
+        if self.exporter.export_from(&mut batch).is_err() {
             self.failed_exports = self.failed_exports.saturating_add(1);
         }
+        self.emptied.keep(batch);
         Ok(())
+    }
+
+    #[inline(always)]
+    fn take_emptied(&mut self) -> Option<Vec<SpanData>> {
+        self.emptied.take()
     }
 
     fn force_flush(&mut self) -> OTelSdkResult {
