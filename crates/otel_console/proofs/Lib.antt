@@ -1,2 +1,1 @@
-pub mod HexBytesLemmas
 pub mod Listed

@@ -1,2 +1,1 @@
-pub mod HexBytes
 pub mod SpanText

@@ -2,7 +2,6 @@
 //! An exporter for eyes: it writes a line of text for each span that is exported, to a terminal or any other writer.
 #![tactic(auto)]
 
-pub mod digits;
 mod exporter;
 pub mod span_text;
 

@@ -7,10 +7,10 @@ ghost use Rattle.otel_console.specs.SpanText.{attribute_text, attributes_text, c
 ghost use Rattle.otel_console.specs.SpanText.{identity_text, ids_and_times_text, links_text, listed, span_line};
 ghost use Rattle.otel_console.specs.SpanText.{span_lines, spaced, status_text};
 
-use crate::digits::{Digits, push_decimal};
 use opentelemetry::trace::{Event, Status};
 use opentelemetry::{KeyValue, Value};
 use otel_export::trace::{SpanData, SpanEvents, SpanLinks};
+use otel_lines::digits::{Digits, push_decimal};
 use std::alloc::AllocError;
 use std::fmt::Write;
 

@@ -1,2 +1,3 @@
 mod FirstByte
+pub mod HexBytesLemmas
 pub mod LineLemmas

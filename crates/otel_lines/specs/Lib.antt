@@ -1,3 +1,4 @@
 pub mod Form
+pub mod HexBytes
 pub mod LineExporter
 pub mod LineStream

@@ -2,6 +2,7 @@
 //! An exporter over any writer: each batch is written whole, in a form that is its user's.
 #![tactic(auto)]
 
+pub mod digits;
 mod exporter;
 mod form;
 mod line_feed;

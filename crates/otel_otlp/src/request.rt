@@ -19,9 +19,6 @@ use otel_resource::resource::Resource;
 use std::alloc::{AllocError, Global};
 use std::mem;
 
-/// How many digits the longest id has.
-const ID_DIGITS: usize = 32;
-
 impl RequestWriter {
     fn scope(&mut self, scope: &InstrumentationScope) -> Result<(), AllocError>
         ensures { Adds result self.old self.new (json_tokens (scope_json scope.now)) }
@@ -154,10 +151,9 @@ pub fn write_request(
         (document (otlp_text resource.now batch.now) ≡ Some (request resource.now batch.now)) }
     ensures err { OnErr result (out.new.items ≡ out.old.items) }
 {
-    let text = String::with_capacity(alloc, ID_DIGITS)?;
     let begun = out.len();
     let bytes = mem::replace(out, Vec::new(alloc));
-    let mut writer = RequestWriter::new(bytes, text);
+    let mut writer = RequestWriter::new(bytes);
     let written = writer.request(alloc, resource, batch);
     *out = writer.into_bytes();
     let ended = match written {

@@ -18,16 +18,14 @@ ghost use Rattle.otel_otlp.specs.OtlpValues.{float_json, moment_field, number_fi
 use json::Writer;
 use opentelemetry::{SpanId, TraceId};
 use otel_float::FloatText;
+use otel_lines::digits::Digits;
 use std::alloc::AllocError;
-use std::fmt::Write;
 use std::marker::Model;
 
 /// The text of a request in the making, after bytes that stand before it.
 #[derive(Drop)]
 pub(crate) struct RequestWriter {
     out: Writer,
-    // Room for the text of an id.
-    text: String,
 }
 
 impl Model for RequestWriter {
@@ -39,13 +37,12 @@ impl Model for RequestWriter {
 }
 
 impl RequestWriter {
-    /// It writes after these bytes. The text is room for that of an id.
-    pub(crate) fn new(bytes: Vec<u8>, text: String) -> RequestWriter
+    /// It writes after these bytes.
+    pub(crate) fn new(bytes: Vec<u8>) -> RequestWriter
         ensures { result ≡ record { before = bytes.items; tokens = [] } }
     {
         RequestWriter {
             out: Writer::new(bytes),
-            text,
         }
     }
 
@@ -174,20 +171,18 @@ impl RequestWriter {
     pub(crate) fn trace_id_field(&mut self, key: &str, id: TraceId) -> Result<(), AllocError>
         ensures { Adds result self.old self.new (fields_tokens (text_field key.now (hex_text 32 id) ∷ [])) }
     {
-        self.text.clear();
-        write!(self.text, "{id}")?;
-        self.out.key(key)?;
-        self.out.string(self.text.as_str())
+        let mut digits = Digits::new();
+        digits.put_trace_id(id);
+        self.text_field(key, digits.as_str())
     }
 
     /// A member whose value is the id of a span.
     pub(crate) fn span_id_field(&mut self, key: &str, id: SpanId) -> Result<(), AllocError>
         ensures { Adds result self.old self.new (fields_tokens (text_field key.now (hex_text 16 id) ∷ [])) }
     {
-        self.text.clear();
-        write!(self.text, "{id}")?;
-        self.out.key(key)?;
-        self.out.string(self.text.as_str())
+        let mut digits = Digits::new();
+        digits.put_span_id(id);
+        self.text_field(key, digits.as_str())
     }
 
     /// A member whose value is the id of a parent, empty where there is none.

@@ -11,9 +11,9 @@ ghost use Rattle.otel_trace_lines.specs.ReplyText.{dropped_line, header_line, he
 
 use crate::reply::Answer;
 use opentelemetry::{SpanId, TraceFlags, TraceId};
-use otel_console::digits::Digits;
 use otel_console::span_text::push_spans;
 use otel_export::trace::SpanData;
+use otel_lines::digits::Digits;
 use std::alloc::AllocError;
 use std::fmt::Write;
 

@@ -3,11 +3,11 @@ use Rattle.std.proofs.Common.{◌≡◌, ℕ, zero, suc, ◌+◌, ◌-◌, ◌*�
 use Rattle.std.proofs.Math.Nat.{pow-suc, div-div-eq-div-mul}
 use Rattle.std.specs.Str.{IsAscii}
 use Rattle.std.proofs.lemmas.Str.Ascii.{IsAscii-nil, IsAscii-cons}
-use Rattle.otel_console.specs.HexBytes.{bytes_text}
+use Rattle.otel_lines.specs.HexBytes.{bytes_text}
 use lib.Ieee.Fits.{and_l, and_r}
 use Rattle.std.specs.Int.{bytes_high_first, byte_at, to_be_bytes, w64, w128}
 use Rattle.opentelemetry.specs.Hex.{hex_digit, hex_text}
-use Rattle.otel_console.specs.declared.digits.TheConstants.{BYTES}
+use Rattle.otel_lines.specs.declared.digits.TheConstants.{BYTES}
 
 -- the table has the digits of each number below
 abbrev are_digits : ℕ → Bool

@@ -1,6 +1,6 @@
 use Rattle.std.proofs.Common.{◌≡◌, ◌+◌, ◌*◌, ◌≤◌, ◌++◌, length, drop}
-use Rattle.otel_console.specs.HexBytes.{bytes_text}
-use Rattle.otel_console.proofs.digits.write_bytes.Given as goal
+use Rattle.otel_lines.specs.HexBytes.{bytes_text}
+use Rattle.otel_lines.proofs.digits.write_bytes.Given as goal
 
 abbrev pub invariant-loop-left : goal.invariant-loop-left
 invariant-loop-left l =

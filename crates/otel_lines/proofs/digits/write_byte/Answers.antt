@@ -1,8 +1,8 @@
 use Rattle.std.proofs.Common.{◌≡◌, ◌+◌, ◌%◌, set, arith, length-set}
 use Rattle.std.proofs.lemmas.List.{set_comm, drop-set}
 use Rattle.opentelemetry.specs.Hex.{hex_digit}
-use Rattle.otel_console.proofs.HexBytesLemmas.{BYTES_at}
-use Rattle.otel_console.proofs.digits.write_byte.Goals as goal
+use Rattle.otel_lines.proofs.HexBytesLemmas.{BYTES_at}
+use Rattle.otel_lines.proofs.digits.write_byte.Goals as goal
 
 pub returns : goal.returns
 returns c =

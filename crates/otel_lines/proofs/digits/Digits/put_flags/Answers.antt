@@ -1,7 +1,7 @@
 use Rattle.std.proofs.Common.{◌++◌, ap, ◌∙◌, arith}
 use Rattle.opentelemetry.specs.Hex.{hex_text}
-use Rattle.otel_console.proofs.HexBytesLemmas.{text_of_flags}
-use Rattle.otel_console.proofs.digits.Digits.put_flags.Goals as goal
+use Rattle.otel_lines.proofs.HexBytesLemmas.{text_of_flags}
+use Rattle.otel_lines.proofs.digits.Digits.put_flags.Goals as goal
 
 pub returns-clause-front : goal.returns-clause-front
 returns-clause-front c =

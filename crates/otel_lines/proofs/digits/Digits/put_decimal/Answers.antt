@@ -2,7 +2,7 @@ use Rattle.std.proofs.Common.{length, drop, arith, length-drop, length-append, a
 use Rattle.std.specs.Fmt.{decimal}
 use Rattle.std.proofs.lemmas.Fmt.{length-decimal-le, IsAscii-decimal}
 use Rattle.std.proofs.lemmas.Str.{IsAscii-append}
-use Rattle.otel_console.proofs.digits.Digits.put_decimal.Goals as goal
+use Rattle.otel_lines.proofs.digits.Digits.put_decimal.Goals as goal
 
 pub write_digits-self-inside-requires : goal.write_digits-self-inside-requires
 write_digits-self-inside-requires c =

@@ -1,7 +1,7 @@
 use Rattle.std.proofs.Common.{◌++◌, ap, ◌∙◌}
-use Rattle.otel_console.specs.HexBytes.{bytes_text}
-use Rattle.otel_console.proofs.HexBytesLemmas.{text_of_span_id}
-use Rattle.otel_console.proofs.digits.Digits.put_span_id.Goals as goal
+use Rattle.otel_lines.specs.HexBytes.{bytes_text}
+use Rattle.otel_lines.proofs.HexBytesLemmas.{text_of_span_id}
+use Rattle.otel_lines.proofs.digits.Digits.put_span_id.Goals as goal
 
 pub returns-clause-front : goal.returns-clause-front
 returns-clause-front c =

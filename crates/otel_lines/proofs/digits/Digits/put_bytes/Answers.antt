@@ -1,8 +1,8 @@
 use Rattle.std.proofs.Common.{length, drop, arith, length-append, ap}
 use Rattle.std.proofs.lemmas.Str.{IsAscii-append}
-use Rattle.otel_console.specs.HexBytes.{bytes_text}
-use Rattle.otel_console.proofs.HexBytesLemmas.{length_bytes_text, IsAscii_bytes_text}
-use Rattle.otel_console.proofs.digits.Digits.put_bytes.Goals as goal
+use Rattle.otel_lines.specs.HexBytes.{bytes_text}
+use Rattle.otel_lines.proofs.HexBytesLemmas.{length_bytes_text, IsAscii_bytes_text}
+use Rattle.otel_lines.proofs.digits.Digits.put_bytes.Goals as goal
 
 pub invariant_of-self : goal.invariant_of-self
 invariant_of-self c =

@@ -1,6 +1,6 @@
 use Rattle.std.proofs.Common.{◌-◌, drop, arith, take_all, length-drop}
 use Rattle.std.proofs.lemmas.Str.{IsUtf8-from_ascii}
-use Rattle.otel_console.proofs.digits.Digits.as_str.Goals as goal
+use Rattle.otel_lines.proofs.digits.Digits.as_str.Goals as goal
 
 pub from_utf8_unchecked-requires : goal.from_utf8_unchecked-requires
 from_utf8_unchecked-requires c =

@@ -5,7 +5,7 @@ ghost use Rattle.std.specs.Prelude.{◌≡◌, ℕ, ◌+◌, ◌*◌, ◌<◌, �
 ghost use Rattle.std.specs.Fmt.{decimal};
 ghost use Rattle.opentelemetry.specs.Hex.{hex_text};
 ghost use Rattle.opentelemetry.specs.Text.{TextGrows};
-ghost use Rattle.otel_console.specs.HexBytes.{byte_text, bytes_text};
+ghost use Rattle.otel_lines.specs.HexBytes.{byte_text, bytes_text};
 
 use itoa::write_digits;
 use opentelemetry::{SpanId, TraceFlags, TraceId};
@@ -156,7 +156,7 @@ fn write_byte(byte: u8, buffer: &mut [u8; ROOM], at: usize)
 
 /// Puts the decimal digits of a number after a text. Most have one.
 #[inline(always)]
-pub(crate) fn push_decimal(text: &mut String, number: u64) -> Result<(), AllocError>
+pub fn push_decimal(text: &mut String, number: u64) -> Result<(), AllocError>
     ensures { OnOk result (TextGrows text.old (decimal number) text.new) }
 {
     if number < 10 {
