@@ -1,5 +1,6 @@
 pub mod Fitting
 pub mod IdBytes
+pub mod LastRun
 pub mod MembersAlike
 pub mod ReadAlike
 pub mod RequestsAlike

@@ -1,4 +1,4 @@
--- The members of links and of spans in turn.
+-- The members of links and of spans in turn, of which the last is taken first.
 use Rattle.std.proofs.Common.{[], ◌++◌, drop}
 use Rattle.std.specs.Int.{to_be_bytes, w64, w128}
 use Rattle.opentelemetry.specs.Plain.{PlainLink}
@@ -13,13 +13,13 @@ use Rattle.otel_protobuf.proofs.Taking.{and_fields}
 use Rattle.otel_protobuf.specs.Progress.{Progress, TakesFields}
 use Rattle.otel_protobuf.specs.Wire.{bytes, fixed32, fixed64, nested, one, unless_empty, unless_zero, varint}
 
-pub link_taken : {start identified named stated kept counted new : Progress} (link : PlainLink)
-    → TakesFields start identified (one 1 (bytes (to_be_bytes w128 link.span_context.trace_id)))
-    → TakesFields identified named (one 2 (bytes (to_be_bytes w64 link.span_context.span_id)))
-    → TakesFields named stated (unless_empty 3 (tracestate_text link.span_context.trace_state))
-    → TakesFields stated kept (said_fields 4 (many attribute_members link.attributes))
-    → TakesFields kept counted (unless_zero 5 varint link.dropped_attributes_count)
-    → TakesFields counted new
+pub link_taken : {start counted kept stated named identified new : Progress} (link : PlainLink)
+    → TakesFields identified new (one 1 (bytes (to_be_bytes w128 link.span_context.trace_id)))
+    → TakesFields named identified (one 2 (bytes (to_be_bytes w64 link.span_context.span_id)))
+    → TakesFields stated named (unless_empty 3 (tracestate_text link.span_context.trace_state))
+    → TakesFields kept stated (said_fields 4 (many attribute_members link.attributes))
+    → TakesFields counted kept (unless_zero 5 varint link.dropped_attributes_count)
+    → TakesFields start counted
     (unless_zero 6 fixed32 (flags_of link.span_context.trace_flags link.span_context.is_remote))
     → TakesFields start new (message_fields (link_members link))
 link_taken link trace span state kept dropped flags =
@@ -31,23 +31,23 @@ link_taken link trace span state kept dropped flags =
     (and_fields (unless_zero 5 varint link.dropped_attributes_count) (message_fields (drop 5 (link_members link))) dropped
     (last (unless_zero 6 fixed32 (flags_of context.trace_flags context.is_remote)) flags)))))
 
-pub span_taken : {start s1 s2 s3 s4 s5 s6 s7 s8 s9 s10 s11 s12 s13 s14 s15 new : Progress} (span : PlainSpanData)
-    → TakesFields start s1 (one 1 (bytes (to_be_bytes w128 span.span_context.trace_id)))
-    → TakesFields s1 s2 (one 2 (bytes (to_be_bytes w64 span.span_context.span_id)))
-    → TakesFields s2 s3 (unless_empty 3 (tracestate_text span.span_context.trace_state))
-    → TakesFields s3 s4 (said_fields 4 (parent_id span.parent_span_id))
-    → TakesFields s4 s5 (unless_empty 5 span.name)
-    → TakesFields s5 s6 (unless_zero 6 varint (kind_number span.span_kind))
-    → TakesFields s6 s7 (unless_zero 7 fixed64 span.start_time)
-    → TakesFields s7 s8 (unless_zero 8 fixed64 span.end_time)
-    → TakesFields s8 s9 (said_fields 9 (many attribute_members span.attributes))
-    → TakesFields s9 s10 (unless_zero 10 varint span.dropped_attributes_count)
-    → TakesFields s10 s11 (said_fields 11 (many event_members span.events.events))
-    → TakesFields s11 s12 (unless_zero 12 varint span.events.dropped_count)
-    → TakesFields s12 s13 (said_fields 13 (many link_members span.links.links))
-    → TakesFields s13 s14 (unless_zero 14 varint span.links.dropped_count)
-    → TakesFields s14 s15 (nested 15 (message_fields (status_members span.status)))
-    → TakesFields s15 new
+pub span_taken : {start s15 s14 s13 s12 s11 s10 s9 s8 s7 s6 s5 s4 s3 s2 s1 new : Progress} (span : PlainSpanData)
+    → TakesFields s1 new (one 1 (bytes (to_be_bytes w128 span.span_context.trace_id)))
+    → TakesFields s2 s1 (one 2 (bytes (to_be_bytes w64 span.span_context.span_id)))
+    → TakesFields s3 s2 (unless_empty 3 (tracestate_text span.span_context.trace_state))
+    → TakesFields s4 s3 (said_fields 4 (parent_id span.parent_span_id))
+    → TakesFields s5 s4 (unless_empty 5 span.name)
+    → TakesFields s6 s5 (unless_zero 6 varint (kind_number span.span_kind))
+    → TakesFields s7 s6 (unless_zero 7 fixed64 span.start_time)
+    → TakesFields s8 s7 (unless_zero 8 fixed64 span.end_time)
+    → TakesFields s9 s8 (said_fields 9 (many attribute_members span.attributes))
+    → TakesFields s10 s9 (unless_zero 10 varint span.dropped_attributes_count)
+    → TakesFields s11 s10 (said_fields 11 (many event_members span.events.events))
+    → TakesFields s12 s11 (unless_zero 12 varint span.events.dropped_count)
+    → TakesFields s13 s12 (said_fields 13 (many link_members span.links.links))
+    → TakesFields s14 s13 (unless_zero 14 varint span.links.dropped_count)
+    → TakesFields s15 s14 (nested 15 (message_fields (status_members span.status)))
+    → TakesFields start s15
     (unless_zero 16 fixed32 (flags_of span.span_context.trace_flags span.parent_span_is_remote))
     → TakesFields start new (message_fields (span_members span))
 span_taken span t1 t2 t3 t4 t5 t6 t7 t8 t9 t10 t11 t12 t13 t14 t15 t16 =

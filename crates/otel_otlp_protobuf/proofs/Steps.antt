@@ -1,5 +1,5 @@
 -- The fields of a message, member by member.
-use Rattle.std.proofs.Common.{◌≡◌, ℕ, List, [], ◌∷◌, ◌++◌, Option, ap, refl, map, ◌∙◌}
+use Rattle.std.proofs.Common.{◌≡◌, ℕ, List, [], ◌∷◌, ◌++◌, Option, ap, arith, length, refl, map, ◌∙◌}
 use Rattle.otel_resource.specs.Resource.{non_empty}
 use Rattle.otel_otlp.specs.Otlp.{or_empty}
 use Rattle.otel_otlp_protobuf.specs.Said.{Member, items_fields, items_of, message_fields}
@@ -24,7 +24,12 @@ many_taken {X} n members xs ys e h =
 
 -- the last member
 pub last : {old new : Progress} (a : List Field) → TakesFields old new a → TakesFields old new (a ++ [])
-last {old} {new} a h = and_fields a [] h (nothing new)
+last {old} {new} a h = and_fields a [] h (nothing old)
+
+-- a list without an item
+pub none_left : {X : Type 0} (xs : List X) → length xs ≡ 0 → [] ≡ xs
+none_left [] e = refl
+none_left (x ∷ xs) e = absurd (omega arith)
 
 -- a text that is none where it is empty
 or_none : (text : List ℕ) → or_empty (non_empty text) ≡ text

@@ -1,4 +1,5 @@
 pub mod Encodings
+pub mod Framed
 pub mod NamedRequest
 pub mod NamedSpan
 pub mod NamedValues

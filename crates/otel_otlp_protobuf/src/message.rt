@@ -1,8 +1,7 @@
 //! Messages, and fields that hold them.
 
-ghost use Rattle.std.specs.Prelude.{◌≡◌, ◌++◌, IfSome, List, length};
 ghost use Rattle.otel_protobuf.specs.Progress.{Takes, TakesFields};
-ghost use Rattle.otel_protobuf.specs.Wire.{Field, after_length, message_bytes, nested, repeated};
+ghost use Rattle.otel_protobuf.specs.Wire.{after_length, message_bytes, nested, repeated};
 
 use otel_protobuf::Sink;
 use std::alloc::Global;
@@ -13,51 +12,38 @@ pub(crate) trait Message {
     ghost use Rattle.otel_protobuf.specs.Progress.{TakesFields};
     ghost use Rattle.otel_protobuf.specs.Wire.{Field};
 
-    /// The fields of the message, in the order in which they are written.
+    /// The fields of the message, in the order in which they stand.
     ghost fields: { Self → List Field };
 
-    /// Hands the fields to a sink, one after the other. Memory is asked for only where a text of a field lies nowhere.
+    /// Hands the fields to a sink, the last one first. Memory is asked for only where a text of a field lies nowhere.
     fn write(&self, alloc: Global, sink: &mut Sink)
         ensures { TakesFields sink.old sink.new (fields self.now) };
 }
 
-/// How many bytes a message has; nothing where something went wrong.
-pub(crate) fn length_of<M: Message>(alloc: Global, message: &M) -> Option<usize>
-    ensures { IfSome result (λ total. total ≡ length (message_bytes (M.fields message.now))) }
+/// A message after its length.
+pub(crate) fn after_length<M: Message>(sink: &mut Sink, alloc: Global, message: &M)
+    ensures { Takes sink.old sink.new (after_length (message_bytes (M.fields message.now))) }
 {
-    let mut count = Sink::counting(alloc);
-    message.write(alloc, &mut count);
-    count.total()
-}
-
-/// Hands a message to a sink, or only its length where that suffices.
-fn contents<M: Message>(sink: &mut Sink, alloc: Global, size: usize, message: &M)
-    requires { size ≡ length (message_bytes (M.fields message.now)) }
-    ensures { Takes sink.old sink.new (message_bytes (M.fields message.now)) }
-{
-    if !sink.skip(size) {
-        message.write(alloc, sink);
-    }
+    let end = sink.left();
+    message.write(alloc, sink);
+    sink.length_since(end);
 }
 
 /// A field that holds a message, also an empty one.
 pub(crate) fn nested<M: Message>(sink: &mut Sink, alloc: Global, number: u32, message: &M)
     ensures { TakesFields sink.old sink.new (nested number (M.fields message.now)) }
 {
-    match length_of(alloc, message) {
-        Some(size) => {
-            sink.head(number, size);
-            contents(sink, alloc, size, message);
-        }
-        None => sink.fail(),
-    }
+    after_length(sink, alloc, message);
+    sink.sized_key(number);
 }
 
 /// A field for each of some messages, also for empty ones.
 pub(crate) fn repeated<M: Message>(sink: &mut Sink, alloc: Global, number: u32, messages: &[M])
     ensures { TakesFields sink.old sink.new (repeated number M.fields messages.now) }
 {
-    for message in messages {
+    let mut rest = messages;
+    while let Some((message, before)) = rest.split_last() {
         nested(sink, alloc, number, message);
+        rest = before;
     }
 }

@@ -38,10 +38,10 @@ impl Message for Event {
     ghost fields = { λ event. message_fields (event_members event) };
 
     fn write(&self, alloc: Global, sink: &mut Sink) {
-        sink.fixed64(1, self.timestamp.0);
-        sink.bytes(2, self.name.as_bytes());
-        repeated(sink, alloc, 3, &self.attributes);
         sink.number(4, self.dropped_attributes_count as u64);
+        repeated(sink, alloc, 3, &self.attributes);
+        sink.bytes(2, self.name.as_bytes());
+        sink.fixed64(1, self.timestamp.0);
     }
 }
 
@@ -50,12 +50,12 @@ impl Message for Link {
 
     fn write(&self, alloc: Global, sink: &mut Sink) {
         let context = &self.span_context;
-        sink.bytes_field(1, &context.trace_id().to_bytes());
-        sink.bytes_field(2, &context.span_id().to_bytes());
-        trace_state(sink, alloc, context.trace_state());
-        repeated(sink, alloc, 4, &self.attributes);
-        sink.number(5, self.dropped_attributes_count as u64);
         flags(sink, 6, context, context.is_remote());
+        sink.number(5, self.dropped_attributes_count as u64);
+        repeated(sink, alloc, 4, &self.attributes);
+        trace_state(sink, alloc, context.trace_state());
+        sink.bytes_field(2, &context.span_id().to_bytes());
+        sink.bytes_field(1, &context.trace_id().to_bytes());
     }
 }
 
@@ -63,8 +63,8 @@ impl Message for Status {
     ghost fields = { λ status. message_fields (status_members (plain_status status)) };
 
     fn write(&self, _alloc: Global, sink: &mut Sink) {
-        sink.bytes(2, message_of(self).as_bytes());
         sink.number(3, code_number(self));
+        sink.bytes(2, message_of(self).as_bytes());
     }
 }
 
@@ -82,21 +82,21 @@ impl Message for SpanData {
 
     fn write(&self, alloc: Global, sink: &mut Sink) {
         let context = &self.span_context;
-        sink.bytes_field(1, &context.trace_id().to_bytes());
-        sink.bytes_field(2, &context.span_id().to_bytes());
-        trace_state(sink, alloc, context.trace_state());
-        parent(sink, self.parent_span_id);
-        sink.bytes(5, self.name.as_bytes());
-        sink.number(6, kind_number(self.span_kind));
-        sink.fixed64(7, self.start_time.0);
-        sink.fixed64(8, self.end_time.0);
-        repeated(sink, alloc, 9, &self.attributes);
-        sink.number(10, self.dropped_attributes_count as u64);
-        repeated(sink, alloc, 11, &self.events.events);
-        sink.number(12, self.events.dropped_count as u64);
-        repeated(sink, alloc, 13, &self.links.links);
-        sink.number(14, self.links.dropped_count as u64);
-        nested(sink, alloc, 15, &self.status);
         flags(sink, 16, context, self.parent_span_is_remote);
+        nested(sink, alloc, 15, &self.status);
+        sink.number(14, self.links.dropped_count as u64);
+        repeated(sink, alloc, 13, &self.links.links);
+        sink.number(12, self.events.dropped_count as u64);
+        repeated(sink, alloc, 11, &self.events.events);
+        sink.number(10, self.dropped_attributes_count as u64);
+        repeated(sink, alloc, 9, &self.attributes);
+        sink.fixed64(8, self.end_time.0);
+        sink.fixed64(7, self.start_time.0);
+        sink.number(6, kind_number(self.span_kind));
+        sink.bytes(5, self.name.as_bytes());
+        parent(sink, self.parent_span_id);
+        trace_state(sink, alloc, context.trace_state());
+        sink.bytes_field(2, &context.span_id().to_bytes());
+        sink.bytes_field(1, &context.trace_id().to_bytes());
     }
 }

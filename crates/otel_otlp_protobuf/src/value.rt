@@ -85,8 +85,8 @@ impl Message for Pair<'_> {
     ghost fields = { λ pair. message_fields (pair_members (pair.key.now, plain_value pair.value.now)) };
 
     fn write(&self, alloc: Global, sink: &mut Sink) {
-        sink.bytes(1, self.key.as_str().as_bytes());
         nested(sink, alloc, 2, self.value);
+        sink.bytes(1, self.key.as_str().as_bytes());
     }
 }
 
@@ -94,7 +94,7 @@ impl Message for KeyValue {
     ghost fields = { λ attribute. message_fields (attribute_members attribute) };
 
     fn write(&self, alloc: Global, sink: &mut Sink) {
-        sink.bytes(1, self.key.as_str().as_bytes());
         nested(sink, alloc, 2, &self.value);
+        sink.bytes(1, self.key.as_str().as_bytes());
     }
 }

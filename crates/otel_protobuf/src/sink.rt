@@ -1,7 +1,8 @@
-//! Where the bytes of a message go: to a count, or to the end of a vector.
+//! Where the bytes of a message go: to a count, or to the end of a vector. The last ones come first, so that the length
+//! of a message within another one is known when it is put before it.
 
-ghost use Rattle.std.specs.Prelude.{◌≡◌, ℕ, ◌+◌, ◌*◌, ◌<◌, ◌≤◌, ◌++◌, ◌∷◌, [], List, IfNone, IfSome, IsTrue, length};
-ghost use Rattle.std.specs.Prelude.{false, true};
+ghost use Rattle.std.specs.Prelude.{◌≡◌, ℕ, ◌+◌, ◌-◌, ◌*◌, ◌^◌, ◌<◌, ◌≤◌, ◌++◌, ◌∷◌, [], List, IfSome, IsTrue, drop};
+ghost use Rattle.std.specs.Prelude.{false, length, take, true, vec_len};
 ghost use Rattle.std.specs.Int.{cast_unsigned, to_be_bytes, w64, w128};
 ghost use Rattle.otel_protobuf.specs.Progress.{Takes, TakesFields};
 ghost use Rattle.otel_protobuf.specs.Wire.{bytes, fixed32, fixed64, key_bytes, one, unless_empty, unless_zero};
@@ -10,20 +11,21 @@ ghost use Rattle.otel_protobuf.specs.Wire.{varint, varint_bytes};
 use std::alloc::Global;
 use std::marker::Model;
 
-/// Where the bytes of a message go. Where memory or a number does not suffice, it takes note, and answers so in the end:
-/// what writes a message need not ask at each field.
+/// Where the bytes of a message go, from its last field to its first. Where room or a number does not suffice, it takes
+/// note, and answers so in the end: what writes a message need not ask at each field.
 #[derive(Drop)]
 pub struct Sink {
     out: Vec<u8>,
-    // Where the message begins in `out`.
+    // Where the message begins in `out`, which ends where the message does.
     begun: usize,
-    count: usize,
+    // How many bytes there is room for, between that and what is written.
+    left: usize,
     only_counts: bool,
     is_whole: bool,
 }
 
 impl Model for Sink {
-    ghost use Rattle.std.specs.Prelude.{◌≤◌, drop, take, vec_len};
+    ghost use Rattle.std.specs.Prelude.{◌≡◌, ◌+◌, ◌≤◌, drop, false, take, true, vec_len};
     ghost use Rattle.otel_protobuf.specs.Progress.{Progress};
 
     ghost Value = { Progress };
@@ -32,69 +34,80 @@ impl Model for Sink {
       before = take sink.begun sink.out.items;
       only_counts = sink.only_counts;
       is_whole = sink.is_whole;
-      count = sink.count;
-      written = drop sink.begun sink.out.items;
+      left = sink.left;
+      written = drop (sink.begun + sink.left) sink.out.items;
     } };
 
-    ghost invariant = { λ sink. sink.begun ≤ vec_len sink.out };
+    ghost invariant = { λ sink. (sink.begun ≤ vec_len sink.out)
+        × (sink.only_counts ≡ true → vec_len sink.out ≡ 0)
+        × (sink.only_counts ≡ false → sink.begun + sink.left ≤ vec_len sink.out) };
 }
 
 impl Sink {
     /// It counts a message, and writes nothing.
     pub fn counting(alloc: Global) -> Sink
         ensures { result
-            ≡ record { before = []; only_counts = true; is_whole = true; count = 0; written = [] } }
+            ≡ record { before = []; only_counts = true; is_whole = true; left = 2 ^ 64 - 1; written = [] } }
     {
         Sink {
             out: Vec::new(alloc),
             begun: 0,
-            count: 0,
+            left: usize::MAX,
             only_counts: true,
             is_whole: true,
         }
     }
 
-    /// It writes a message after these bytes.
-    pub fn after(out: Vec<u8>) -> Sink
-        ensures { result
-            ≡ record { before = out.items; only_counts = false; is_whole = true; count = 0; written = [] } }
+    /// It writes a message over the bytes from a place on, which it fills from their end.
+    pub fn over(out: Vec<u8>, begun: usize) -> Sink
+        requires { begun ≤ vec_len out }
+        ensures { result ≡ record {
+          before = take begun out.items;
+          only_counts = false;
+          is_whole = true;
+          left = vec_len out - begun;
+          written = [];
+        } }
     {
-        let begun = out.len();
+        let left = out.len() - begun;
         Sink {
             out,
             begun,
-            count: 0,
+            left,
             only_counts: false,
             is_whole: true,
         }
     }
 
-    /// How many bytes the message has; nothing where something went wrong.
+    /// How many bytes a counted message has; nothing where something went wrong.
     pub fn total(&self) -> Option<usize>
-        ensures { IfSome result (λ total. IsTrue self.now.is_whole × (total ≡ self.now.count)) }
+        ensures { IfSome result (λ total. IsTrue self.now.is_whole × (total + self.now.left ≡ 2 ^ 64 - 1)) }
     {
         if self.is_whole {
-            Some(self.count)
+            Some(usize::MAX - self.left)
         } else {
             None
         }
     }
 
-    /// The bytes before, and after them those of the message, if that is whole.
+    /// The bytes before, and after them those of the message, if that is whole and fills its place.
     pub fn into_bytes(self) -> (Vec<u8>, bool)
-        ensures whole { IsTrue result.1 → IsTrue self.is_whole × (result.0.items ≡ self.before ++ self.written) }
+        ensures whole { IsTrue result.1
+            → IsTrue self.is_whole × (self.left ≡ 0) × (result.0.items ≡ self.before ++ self.written) }
         ensures cut { result.1 ≡ false → result.0.items ≡ self.before }
     {
         let Sink {
             mut out,
             begun,
+            left,
             is_whole,
             ..
         } = self;
-        if !is_whole {
+        let fills = is_whole && left == 0;
+        if !fills {
             out.truncate(begun);
         }
-        (out, is_whole)
+        (out, fills)
     }
 
     /// Takes note that something went wrong.
@@ -104,54 +117,71 @@ impl Sink {
         self.is_whole = false;
     }
 
-    /// Counts bytes that it then need not be given, and answers whether it does: it does not where they are to be written.
-    pub fn skip(&mut self, more: usize) -> bool
-        ensures skipped { IsTrue result → (bytes : List ℕ) → length bytes ≡ more
-            → Takes self.old self.new bytes }
-        ensures not { result ≡ false → self.new ≡ self.old }
+    /// How many bytes there is room for.
+    #[inline(always)]
+    pub fn left(&self) -> usize
+        ensures { result ≡ self.now.left }
     {
-        if !self.only_counts {
-            return false;
-        }
-        self.add(more);
-        true
-    }
-
-    /// Adds to the count alone.
-    fn add(&mut self, more: usize)
-        requires { IsTrue self.old.only_counts }
-        ensures { (bytes : List ℕ) → length bytes ≡ more → Takes self.old self.new bytes }
-    {
-        match self.count.checked_add(more) {
-            Some(count) => self.count = count,
-            None => self.is_whole = false,
-        }
+        self.left
     }
 
     /// Takes bytes.
+    #[inline(always)]
     fn take(&mut self, bytes: &[u8])
         ensures { Takes self.old self.new bytes.now }
     {
-        match self.count.checked_add(bytes.len()) {
-            Some(count) => self.count = count,
-            None => self.is_whole = false,
-        }
-        if !self.only_counts && self.out.extend_from_slice(bytes).is_err() {
+        let Some(left) = self.left.checked_sub(bytes.len()) else {
             self.is_whole = false;
+            return;
+        };
+        if !self.only_counts {
+            let begin = self.begun + left;
+            let end = self.begun + self.left;
+            self.out[begin..end].copy_from_slice(bytes);
         }
+        self.left = left;
     }
 
+    /// Takes a byte.
+    #[inline(always)]
+    fn byte(&mut self, byte: u8)
+        ensures { Takes self.old self.new (byte ∷ []) }
+    {
+        let Some(left) = self.left.checked_sub(1) else {
+            self.is_whole = false;
+            return;
+        };
+        if !self.only_counts {
+            let begin = self.begun + left;
+            self.out[begin] = byte;
+        }
+        self.left = left;
+    }
+
+    #[inline(always)]
     fn varint(&mut self, number: u64)
         ensures { Takes self.old self.new (varint_bytes number) }
     {
-        let mut rest = number;
-        while rest >= 128 {
-            self.take(&[(128 + rest % 128) as u8]);
-            rest /= 128;
+        if number < 128 {
+            self.byte(number as u8);
+        } else {
+            self.long_varint(number);
         }
-        self.take(&[rest as u8]);
     }
 
+    /// A number of more than seven bits: those above the lowest seven come first.
+    fn long_varint(&mut self, number: u64)
+        ensures { Takes self.old self.new (varint_bytes number) }
+    {
+        if number < 128 {
+            self.byte(number as u8);
+        } else {
+            self.long_varint(number / 128);
+            self.byte((128 + number % 128) as u8);
+        }
+    }
+
+    #[inline(always)]
     fn key(&mut self, number: u32, kind: u32)
         requires { kind < 8 }
         ensures { Takes self.old self.new (key_bytes number kind) }
@@ -159,43 +189,45 @@ impl Sink {
         self.varint(8 * number as u64 + kind as u64);
     }
 
-    /// The key of a field of so many bytes, and how many these are; the bytes come next.
-    pub fn head(&mut self, number: u32, length: usize)
-        ensures { Takes self.old self.new (key_bytes number 2 ++ varint_bytes length) }
+    /// The key of a field whose length was taken before.
+    #[inline(always)]
+    pub fn sized_key(&mut self, number: u32)
+        ensures { Takes self.old self.new (key_bytes number 2) }
     {
         self.key(number, 2);
-        self.length(length);
     }
 
-    /// How many bytes come next.
-    pub fn length(&mut self, length: usize)
-        ensures { Takes self.old self.new (varint_bytes length) }
+    /// How many bytes were taken since so much room was left.
+    #[inline(always)]
+    pub fn length_since(&mut self, end: usize)
+        ensures { Takes self.old self.new (varint_bytes (end - self.old.left)) }
     {
-        self.varint(length as u64);
+        self.varint(end.saturating_sub(self.left) as u64);
     }
 
     /// A field that holds a number by seven bits a byte, also where that is 0.
     pub fn varint_field(&mut self, number: u32, value: u64)
         ensures { TakesFields self.old self.new (one number (varint value)) }
     {
-        self.key(number, 0);
         self.varint(value);
+        self.key(number, 0);
     }
 
     /// A field that holds a number of eight bytes, also where that is 0.
     pub fn fixed64_field(&mut self, number: u32, value: u64)
         ensures { TakesFields self.old self.new (one number (fixed64 value)) }
     {
-        self.key(number, 1);
         self.take(&value.to_le_bytes());
+        self.key(number, 1);
     }
 
     /// A field that holds bytes, also where there are none.
     pub fn bytes_field(&mut self, number: u32, value: &[u8])
         ensures { TakesFields self.old self.new (one number (bytes value.now)) }
     {
-        self.head(number, value.len());
         self.take(value);
+        self.varint(value.len() as u64);
+        self.sized_key(number);
     }
 
     /// A field that holds a number by seven bits a byte; 0 is left out.
@@ -221,8 +253,8 @@ impl Sink {
         ensures { TakesFields self.old self.new (unless_zero number fixed32 value) }
     {
         if value != 0 {
-            self.key(number, 5);
             self.take(&value.to_le_bytes());
+            self.key(number, 5);
         }
     }
 

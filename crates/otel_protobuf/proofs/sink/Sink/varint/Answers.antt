@@ -1,15 +1,8 @@
--- One byte, and then the rest.
+-- One byte.
 use Rattle.std.proofs.Common.{sym}
-use Rattle.otel_protobuf.proofs.Taking.{and_then, as_bytes}
-use Rattle.otel_protobuf.proofs.Varints.{large, small}
+use Rattle.otel_protobuf.proofs.Taking.{as_bytes}
+use Rattle.otel_protobuf.proofs.Varints.{small}
 use Rattle.otel_protobuf.proofs.sink.Sink.varint.Goals as goal
 
-pub loop-rest-preserved : goal.loop-rest-preserved
-loop-rest-preserved c =
-    λ new h. c.loop-rest.invariant new
-    (as_bytes (sym (large c.loop-rest.rest c.loop-rest-test.true)) (and_then c.take.ensures h))
-
-pub returns : goal.returns
-returns c =
-    c.loop-rest.invariant c.take-2.new.self
-    (as_bytes (sym (small c.loop-rest.rest c.loop-rest-test.false)) c.take-2.ensures)
+pub returns-then-number-lt128 : goal.returns-then-number-lt128
+returns-then-number-lt128 c = as_bytes (sym (small c.args.number c.if-number-lt128.true)) c.byte.ensures
