@@ -123,6 +123,7 @@ class Answers(BaseHTTPRequestHandler):
     received = None
     fault_type = None
     failing_status = None
+    failing_message = None
 
     def do_POST(self):
         length = self.headers.get("Content-Length", "")
@@ -132,7 +133,7 @@ class Answers(BaseHTTPRequestHandler):
         if self.path != PATH:
             return self.refuse(404, NOT_FOUND, f"nothing is at {self.path}, traces are posted to {PATH}")
         if self.received.turns_away():
-            return self.refuse(self.failing_status, UNAVAILABLE, "as --fail asks", [("Retry-After", "1")])
+            return self.refuse(self.failing_status, UNAVAILABLE, self.failing_message, [("Retry-After", "1")])
         kind = self.headers.get_content_type()
         if kind not in self.received.readers or self.headers.get("Content-Encoding", "identity") != "identity":
             types = " and ".join(self.received.readers)
@@ -224,7 +225,8 @@ def serve(words, readers, fault_type):
     expected = expected_spans(words.expect, readers[JSON]) if words.expect else None
     kept = open(words.keep, "ab") if words.keep else None
     received = Received(readers, words.fail, words.requests, kept)
-    how = {"received": received, "fault_type": fault_type, "failing_status": words.fail_with}
+    failing = {"failing_status": words.fail_with, "failing_message": words.fail_saying}
+    how = {"received": received, "fault_type": fault_type, **failing}
     server = Server(("127.0.0.1", words.serve), type("AnswersHere", (Answers,), how))
     serving = threading.Thread(target=server.serve_forever, args=(0.05,))
     serving.start()

@@ -49,10 +49,11 @@ by_status encoding status retry_after body failure true judges =
 by_status encoding status retry_after body failure false is =
     ap is_answered is ∙ unless_answered status retry_after (is_retryable status)
 
-module _ {S : Type 0} (contents remaining : S → Option (List ℕ)) (made : Made) (old : S) (new : Connection S) where
+module _ {S : Type 0} (contents remaining : S → Option (List ℕ)) (made : Made) (old : S) (reason : List ℕ)
+    (new : Connection S) where
   by_failure : (failure : Option ExportFailure) → is_answered failure ≡ true
-      → IsAnswered contents remaining made old failure new
-      → Exchanges contents remaining made old failure new
+      → IsAnswered contents remaining made old failure reason new
+      → Exchanges contents remaining made old failure reason new
   by_failure None answered h = h
   by_failure (Some (failures.Retryable status retry_after)) answered h = h
   by_failure (Some (failures.Refused status)) answered h = h
@@ -68,8 +69,8 @@ module _ {S : Type 0} (contents remaining : S → Option (List ℕ)) (made : Mad
 
   -- an answer that was read is an exchange
   pub answered_exchange : (failure : Option ExportFailure)
-      → IsAnswered contents remaining made old failure new
-      → Exchanges contents remaining made old failure new
+      → IsAnswered contents remaining made old failure reason new
+      → Exchanges contents remaining made old failure reason new
   answered_exchange failure h =
       by_failure failure
       (by_status made.encoding h.status h.retry_after h.body failure (is_success h.status) h.judges) h

@@ -1,2 +1,4 @@
 pub mod AttemptLemmas
 pub mod FieldLemmas
+pub mod MessageLemmas
+pub mod ReasonLemmas

@@ -16,8 +16,8 @@ use Rattle.otel_otlp_http.specs.Attempts.{Asked, Attempts, Connection, asking, o
 use Rattle.otel_otlp_http.specs.Failures.{AnswersFor, is_kept}
 
 -- where it sends and how, over which stream and whether over it; the batches that were taken until one was not, those
--- that it keeps and for how many more it has room, why the last export failed, the resource of the spans to come (none
--- where there was no memory for the last one), and whether it is shut
+-- that it keeps and for how many more it has room, why the last export failed and what the other side said of that, the
+-- resource of the spans to come (none where there was no memory for the last one), and whether it is shut
 pub record HttpExporter (S : Type 0) : Type 0 where
   pub endpoint : PlainEndpoint
   pub encoding : Encoding
@@ -27,6 +27,7 @@ pub record HttpExporter (S : Type 0) : Type 0 where
   pub unsent : List (List PlainSpanData)
   pub room : ℕ
   pub failure : Option ExportFailure
+  pub reason : List ℕ
   pub resource : Option PlainResource
   pub is_shut : Bool
 
@@ -41,6 +42,7 @@ new_exporter endpoint encoding stream resource = record {
   unsent = [];
   room = 0;
   failure = None;
+  reason = [];
   resource = Some resource;
   is_shut = false;
 }
@@ -72,8 +74,9 @@ module _ {S : Type 0} (contents remaining : S → Option (List ℕ)) where
   -- a batch was tried
   pub record Tries (old : HttpExporter S) (batch : List PlainSpanData) (answer : Result (Unit {0}) OTelSdkError)
       (new : HttpExporter S) : Type 0 where
-    pub stream : Attempts contents remaining (asked_of old batch) (connection_of old) new.failure (connection_of new)
-    pub answer_is : AnswersFor new.failure answer
+    pub stream :
+        Attempts contents remaining (asked_of old batch) (connection_of old) new.failure new.reason (connection_of new)
+    pub answer_is : AnswersFor new.failure new.reason answer
     pub taken : new.taken ≡ taken_after new.failure batch old.taken
     pub unsent : new.unsent ≡ unsent_after new.failure batch old.unsent
     pub rest : new ≡ record old {
@@ -83,6 +86,7 @@ module _ {S : Type 0} (contents remaining : S → Option (List ℕ)) where
       unsent = new.unsent;
       room = new.room;
       failure = new.failure;
+      reason = new.reason;
     }
 
   -- a batch for which there was neither room nor memory is lost, and nothing is sent
@@ -90,7 +94,7 @@ module _ {S : Type 0} (contents remaining : S → Option (List ℕ)) where
     where
       pub full : old.room ≡ 0
       pub answer_is : answer ≡ Err errors.OutOfMemory
-      pub rest : new ≡ record old { taken = None; failure = Some failures.Lost }
+      pub rest : new ≡ record old { taken = None; failure = Some failures.Lost; reason = [] }
 
   -- after a shutdown nothing is sent
   pub record Declines (old : HttpExporter S) (answer : Result (Unit {0}) OTelSdkError) (new : HttpExporter S) : Type 0

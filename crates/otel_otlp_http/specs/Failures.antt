@@ -1,7 +1,6 @@
--- What becomes of a batch that was not taken, by the failure.
-use Rattle.std.specs.Prelude.{◌≡◌, Bool, true, false, Option, Some, None}
-use Rattle.std.specs.Prelude.{Result, Ok, Err}
-use Rattle.otel_export.specs.ExporterCalls.{IsInternalFailure}
+-- What becomes of a batch that was not taken, by the failure, and what an export answers.
+use Rattle.std.specs.Prelude.{◌≡◌, ◌⊎◌, ◌==◌, ℕ, Bool, true, false, List, [], ◌++◌, Option, Some, None, Result, Ok, Err}
+use Rattle.std.specs.Prelude.{codes, if◌then◌else◌, length, string_bytes}
 use Rattle.otel_export.specs.declared.error.OTelSdkError.{OTelSdkError}
 use Rattle.otel_export.specs.declared.error.OTelSdkError.TheVariants as errors
 use Rattle.otel_otlp_http.specs.declared.failure.ExportFailure.{ExportFailure}
@@ -25,12 +24,28 @@ abbrev pub is_kept : Option ExportFailure → Bool
 is_kept None = false
 is_kept (Some failure) = is_kept_after failure
 
--- what an export answers: a batch that is lost is named by its answer
-abbrev pub IsFailureOf : ExportFailure → OTelSdkError → Type 0
-IsFailureOf failures.Lost error = error ≡ errors.OutOfMemory
-IsFailureOf failure error = IsInternalFailure error
+-- what stands after the text of a failure: what the other side said of it, where it said something
+abbrev pub reason_text : List ℕ → List ℕ
+reason_text reason = if length reason == 0 then [] else codes ": " ++ reason
 
-abbrev pub AnswersFor : Option ExportFailure → Result (Unit {0}) OTelSdkError → Type 0
-AnswersFor None answer = answer ≡ Ok tt
-AnswersFor (Some failure) (Ok done) = ⊥
-AnswersFor (Some failure) (Err error) = IsFailureOf failure error
+-- a text ends with a reason
+abbrev pub EndsWithReason : List ℕ → List ℕ → Type 0
+EndsWithReason reason text = (failure : List ℕ) × (text ≡ failure ++ reason_text reason)
+
+-- an error that names what failed, and why; where there was no memory for its text, that is empty
+abbrev pub SaysReason : List ℕ → OTelSdkError → Type 0
+SaysReason reason (errors.InternalFailure text) =
+    (string_bytes text ≡ []) ⊎ EndsWithReason reason (string_bytes text)
+SaysReason reason errors.OutOfMemory = ⊥
+SaysReason reason errors.AlreadyShutdown = ⊥
+SaysReason reason (errors.Timeout duration) = ⊥
+
+-- what an export answers: a batch that is lost is named by its answer
+abbrev pub IsFailureOf : ExportFailure → List ℕ → OTelSdkError → Type 0
+IsFailureOf failures.Lost reason error = error ≡ errors.OutOfMemory
+IsFailureOf failure reason error = SaysReason reason error
+
+abbrev pub AnswersFor : Option ExportFailure → List ℕ → Result (Unit {0}) OTelSdkError → Type 0
+AnswersFor None reason answer = answer ≡ Ok tt
+AnswersFor (Some failure) reason (Ok done) = ⊥
+AnswersFor (Some failure) reason (Err error) = IsFailureOf failure reason error

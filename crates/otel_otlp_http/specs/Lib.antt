@@ -1,7 +1,9 @@
 pub mod Attempts
 pub mod Exporter
 pub mod Failures
+pub mod Messages
 pub mod ProtobufSuccess
+pub mod Reasons
 pub mod Requests
 pub mod Success
 pub mod Verdicts

@@ -5,8 +5,9 @@ ghost use Rattle.otel_resource.specs.Resource.{empty_resource};
 ghost use Rattle.otel_otlp_http.specs.Exporter.{new_exporter};
 ghost use Rattle.otel_otlp_http.specs.Failures.{is_kept};
 
-use crate::attempt::attempt;
+use crate::attempt::{Tried, attempt};
 use crate::failure::ExportFailure;
+use crate::reason::Reason;
 use otel_export::error::{OTelSdkError, OTelSdkResult};
 use otel_export::history::History;
 use otel_export::trace::{SpanData, SpanExporter};
@@ -39,6 +40,7 @@ pub struct OtlpHttpExporter<S: Read + Write> {
     has_failed: bool,
     unsent: Vec<Vec<SpanData>>,
     failure: Option<ExportFailure>,
+    reason: Reason,
     // None: there was no memory for the last one.
     resource: Option<Resource>,
     is_shut: bool,
@@ -64,6 +66,7 @@ impl<S: Read + Write> Model for OtlpHttpExporter<S> {
       unsent = map (λ batch. batch.items) e.unsent.items;
       room = vec_capacity e.unsent - vec_len e.unsent;
       failure = e.failure;
+      reason = e.reason.bytes;
       resource = e.resource;
       is_shut = e.is_shut;
     } };
@@ -90,6 +93,7 @@ impl<S: Read + Write + Drop> OtlpHttpExporter<S> {
             has_failed: false,
             unsent: Vec::new(alloc),
             failure: None,
+            reason: Reason::new(),
             resource: Some(Resource::builder_empty(alloc).build()),
             is_shut: false,
         }
@@ -114,6 +118,16 @@ impl<S: Read + Write + Drop> OtlpHttpExporter<S> {
         ensures { result ≡ self.now.failure }
     {
         self.failure
+    }
+
+    /// What the other side said of that failure, in its own words: the message of the status in the body of its answer,
+    /// or of its partial success. It is empty where nothing failed, where there is no such text in the encoding of the
+    /// request, and where there was no memory to read JSON. It has 200 characters of the text at most, of which control
+    /// characters are shown as `\x1b`.
+    pub fn last_reason(&self) -> &str
+        ensures { result.now ≡ self.now.reason }
+    {
+        self.reason.as_str()
     }
 
     /// Goes on over another stream, and gives back the one before.
@@ -167,7 +181,7 @@ impl<S: Read + Write + Drop> SpanExporter for OtlpHttpExporter<S> {
 
     /// `OutOfMemory` says that the batch was lost: there was no memory to keep it, so that it was not sent. After a
     /// shutdown it is `AlreadyShutdown`, and the batch is dropped. All else is `InternalFailure`, which `last_failure`
-    /// tells apart.
+    /// tells apart: with the failure's text, and after it what `last_reason` says.
     fn export(&mut self, batch: Vec<SpanData>) -> OTelSdkResult {
         if self.is_shut {
             self.has_failed = true;
@@ -176,10 +190,11 @@ impl<S: Read + Write + Drop> SpanExporter for OtlpHttpExporter<S> {
         if self.unsent.reserve(1).is_err() {
             self.has_failed = true;
             self.failure = Some(ExportFailure::Lost);
+            self.reason = Reason::new();
             return Err(OTelSdkError::OutOfMemory);
         }
         self.taken.push(&batch);
-        self.failure = attempt(
+        let Tried { failure, reason } = attempt(
             self.alloc,
             &self.endpoint,
             self.encoding,
@@ -188,12 +203,14 @@ impl<S: Read + Write + Drop> SpanExporter for OtlpHttpExporter<S> {
             &mut self.stream,
             &mut self.is_open,
         );
+        self.failure = failure;
+        self.reason = reason;
         settle(&mut self.unsent, batch, self.failure);
         match self.failure {
             None => Ok(()),
             Some(failure) => {
                 self.has_failed = true;
-                Err(failure.into_error(self.alloc))
+                Err(failure.into_error(self.alloc, self.reason.as_str()))
             }
         }
     }

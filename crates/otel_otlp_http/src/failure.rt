@@ -1,11 +1,11 @@
 //! Why the spans of a batch were not taken, and what becomes of the batch.
 
-ghost use Rattle.std.specs.Prelude.{◌≡◌};
-ghost use Rattle.otel_otlp_http.specs.Failures.{IsFailureOf, is_kept_after};
+ghost use Rattle.std.specs.Prelude.{◌≡◌, ◌++◌, IfOk, OnOk, string_bytes};
+ghost use Rattle.otel_otlp_http.specs.Failures.{EndsWithReason, IsFailureOf, is_kept_after, reason_text};
 
 use otel_export::error::OTelSdkError;
 use otel_http_post::{AnswerError, PostError};
-use std::alloc::Global;
+use std::alloc::{AllocError, Global};
 use std::io::ErrorKind;
 use thiserror::Error;
 
@@ -87,14 +87,35 @@ impl ExportFailure {
         }
     }
 
-    /// What an export answers.
-    pub(crate) fn into_error(self, alloc: Global) -> OTelSdkError
-        ensures { IsFailureOf self result }
+    /// What an export answers: the failure's text, and after it what the other side said of it.
+    pub(crate) fn into_error(self, alloc: Global, reason: &str) -> OTelSdkError
+        ensures { IsFailureOf self reason.now result }
     {
         if let ExportFailure::Lost = self {
             return OTelSdkError::OutOfMemory;
         }
-        let reason = format!(in alloc; "{self}");
-        OTelSdkError::InternalFailure(reason.unwrap_or(String::new(alloc)))
+        match self.text(alloc, reason) {
+            Ok(text) => OTelSdkError::InternalFailure(text),
+            Err(_) => OTelSdkError::InternalFailure(String::new(alloc)),
+        }
     }
+
+    fn text(self, alloc: Global, reason: &str) -> Result<String, AllocError>
+        ensures { IfOk result (λ text. EndsWithReason reason.now (string_bytes text)) }
+    {
+        let mut text = format!(in alloc; "{self}")?;
+        push_reason(&mut text, reason)?;
+        Ok(text)
+    }
+}
+
+/// Appends what the other side said, where it said something.
+fn push_reason(text: &mut String, reason: &str) -> Result<(), AllocError>
+    ensures { OnOk result (string_bytes text.new ≡ string_bytes text.old ++ reason_text reason.now) }
+{
+    if !reason.is_empty() {
+        text.push_str(": ")?;
+        text.push_str(reason)?;
+    }
+    Ok(())
 }

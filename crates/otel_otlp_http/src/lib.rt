@@ -5,7 +5,9 @@
 mod attempt;
 mod exporter;
 mod failure;
+mod message;
 mod protobuf;
+mod reason;
 mod request;
 mod success;
 mod verdict;

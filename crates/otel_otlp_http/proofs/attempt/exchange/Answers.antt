@@ -18,7 +18,8 @@ returns-in-Ok g c = λ asked.
       text = c.args.post.text.items;
     } in
     let left : Connection _ = record { stream = c.read_answer.new.reader; is_open = answer.keeps } in
-    answered_exchange g.S.Write.contents g.S.Read.remaining made c.args.stream.now left c.judge.result (record {
+    answered_exchange g.S.Write.contents g.S.Read.remaining made c.args.stream.now c.reason_for-reason.result.bytes left
+    c.judge-failure.result (record {
       between = c.write_whole.new.writer;
       received = read.0;
       status = answer.status;
@@ -27,5 +28,6 @@ returns-in-Ok g c = λ asked.
       writes = subst sent c.deref.ensures.value c.in_default.ensures.ok;
       reads = read.1;
       answer = read.2 asked;
-      judges = c.judge.ensures;
+      judges = c.judge-failure.ensures;
+      says_why = c.reason_for-reason.ensures;
     })
