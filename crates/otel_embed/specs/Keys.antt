@@ -1,9 +1,12 @@
 -- The open spans of a pipeline by their keys: numbers from 1 on, each of which names one span for ever.
-use Rattle.std.specs.Prelude.{◌≡◌, ◌≤◌, ◌<◌, ◌+◌, ◌==◌, ◌||◌, ℕ, List, Option, Some, None, IsSome, if◌then◌else◌}
+use Rattle.std.specs.Prelude.{◌≡◌, ◌≤◌, ◌<◌, ◌+◌, ◌==◌, ◌||◌, ℕ, List, [], ◌∷◌, Option, Some, None, IsSome}
+use Rattle.std.specs.Prelude.{if◌then◌else◌}
 use Rattle.std.specs.Ordering.{nat_cmp}
 use Rattle.std.specs.BTreeMap.{is_at}
 use Rattle.std.specs.Map.{lookup}
 use Rattle.opentelemetry.specs.Plain.{PlainContext}
+use Rattle.opentelemetry.specs.PlainContexts.{empty_span_context, root_cx}
+use Rattle.otel_sampling.specs.Limits.{default_limits}
 use Rattle.otel_pipeline.specs.InSpan.{active_in}
 use Rattle.otel_pipeline.specs.SpanHistory.{Edit, PlainSpan, after}
 use Rattle.otel_embed.specs.declared.error.PipelineError.{PipelineError}
@@ -13,6 +16,19 @@ use Rattle.otel_embed.specs.declared.error.PipelineError.TheVariants as errors
 pub record OpenedSpan : Type 0 where
   pub span : PlainSpan
   pub cx : PlainContext
+
+-- a span that nobody knows
+abbrev pub unknown_span : PlainSpan
+unknown_span = record {
+  span_context = empty_span_context;
+  limits = default_limits;
+  recorded = None;
+}
+
+-- the only open span in a list of one
+abbrev pub only_opened : List OpenedSpan → OpenedSpan
+only_opened [] = record { span = unknown_span; cx = root_cx }
+only_opened (opened ∷ _) = opened
 
 -- the context in which an open span is active; where it has no ids, as after a shutdown, the context that it was
 -- started in, which passes its parent on

@@ -9,6 +9,7 @@ mod flow;
 mod given;
 mod headers;
 mod held_lines;
+mod held_span;
 pub mod host_attribute;
 pub mod host_headers;
 mod ignored;

@@ -1,6 +1,6 @@
 //! The open spans by their keys. A key is a number from 1 on, names one span, and is not used again.
 
-ghost use Rattle.std.specs.Prelude.{◌≡◌, [], IfErr, IfOk, IsOk, OnErr, OnOk, None, Some, length};
+ghost use Rattle.std.specs.Prelude.{◌≡◌, ◌<◌, [], IfErr, IfOk, IsOk, OnErr, OnOk, None, Some, length, vec_capacity};
 ghost use Rattle.otel_embed.specs.Keys.{Closes, EditsAt, IsRefusedAt, OpenedSpan, SameSpans, span_at};
 ghost use Rattle.otel_pipeline.specs.Ending.{EndIsInfallible, Ends};
 ghost use Rattle.otel_embed.specs.Flows.{MayStart};
@@ -9,6 +9,7 @@ ghost use Rattle.otel_pipeline.specs.StartRequest.{start_request};
 
 use crate::changes_span::ChangesSpan;
 use crate::error::PipelineError;
+use crate::held_span::{HeldSpan, empty_block};
 use crate::open_span::OpenSpan;
 use opentelemetry::trace::SpanBuilder;
 use opentelemetry::{Context, Moment};
@@ -22,8 +23,9 @@ use std::marker::Model;
 /// Spans by their keys.
 #[derive(Drop)]
 pub(crate) struct OpenSpans {
-    spans: BTreeMap<u64, OpenSpan>,
+    spans: BTreeMap<u64, HeldSpan>,
     next_key: u64,
+    alloc: Global,
 }
 
 impl Model for OpenSpans {
@@ -43,6 +45,7 @@ impl OpenSpans {
         OpenSpans {
             spans: BTreeMap::new(alloc),
             next_key: 1,
+            alloc,
         }
     }
 
@@ -66,7 +69,7 @@ impl OpenSpans {
         ensures { IfOk result (λ found. span_at self.now key ≡ Some found.now) }
     {
         match self.spans.get(&key) {
-            Some(found) => Ok(found),
+            Some(found) => Ok(found.get()),
             None => Err(PipelineError::NoSuchSpan),
         }
     }
@@ -93,7 +96,24 @@ impl OpenSpans {
             drop(cx);
             return Err(PipelineError::OutOfMemory);
         };
-        start_under(&mut self.spans, key, builder, cx, tracer, provider, now)?;
+        let block = match empty_block(self.alloc) {
+            Ok(block) => block,
+            Err(error) => {
+                drop(builder);
+                drop(cx);
+                return Err(PipelineError::from(error));
+            }
+        };
+        start_under(
+            &mut self.spans,
+            key,
+            block,
+            builder,
+            cx,
+            tracer,
+            provider,
+            now,
+        )?;
         self.next_key = next_key;
         Ok(key)
     }
@@ -153,16 +173,19 @@ impl OpenSpans {
     }
 }
 
-/// Starts a span under a key that is free, in a context.
+/// Starts a span under a key that is free, in a context, and puts it into a block.
 fn start_under<P: SpanProcessor, S: ShouldSample, G: GivesIds>(
-    spans: &mut BTreeMap<u64, OpenSpan>,
+    spans: &mut BTreeMap<u64, HeldSpan>,
     key: u64,
+    block: Vec<OpenSpan>,
     builder: SpanBuilder,
     cx: Context,
     tracer: &SdkTracer,
     provider: &mut ProviderOf<P, S, G>,
     now: Moment,
 ) -> Result<(), PipelineError>
+    requires empty { block.items ≡ [] }
+    requires room { 0 < vec_capacity block }
     ensures ok { OnOk result (StartsUnder P.SpanProcessor S.ShouldSample G.GivesIds provider.old
         (record { entries = spans.old.entries; next_key = key }) (start_request tracer.now builder cx now.0) key
         provider.new (record { entries = spans.new.entries; next_key = key })) }
@@ -182,7 +205,7 @@ fn start_under<P: SpanProcessor, S: ShouldSample, G: GivesIds>(
     match entry {
         Entry::Vacant(place) => match tracer.build_with_context(builder, &cx, provider, now) {
             Ok(span) => {
-                place.insert(OpenSpan { span, cx });
+                place.insert(HeldSpan::within(block, OpenSpan { span, cx }));
                 Ok(())
             }
             Err(error) => {
