@@ -1,7 +1,8 @@
 // SPDX-License-Identifier: Apache-2.0
 /* Looks at what calls that are handed attributes leave in lines: the same bytes as those that take gathered ones, by
-   the same seed and moments; and what was gathered stays. Then at a process made by a fork, whose pipeline goes on. It
-   ends with 1 where something is not so, and names it. */
+   the same seed and moments; and what was gathered stays. Then at a process made by a fork, whose pipeline goes on, at
+   what a resource names, and at what a pipeline that is shut down passes on. It ends with 1 where something is not so,
+   and names it. */
 #include "otel.h"
 
 #include <stdio.h>
@@ -170,10 +171,58 @@ static void a_pipeline_goes_on_after_a_fork(void) {
   hold(otel_after_fork(&handle, 9) == OTEL_CLOSED, "a handle that is not open does not go on");
 }
 
+/* What the lines of one span have that such settings open a pipeline for. */
+static bool names(const uint8_t *settings, size_t length, const char *what) {
+  static char lines[ROOM];
+  otel_handle handle = {0};
+  uint64_t span;
+  must(otel_open(&handle, settings, length, 7));
+  must(otel_start(&handle, 0, 0, OTEL_SERVER, TEXT("span"), MOMENT, &span));
+  must(otel_end(&handle, span, MOMENT));
+  must(otel_flush(&handle));
+  drain(&handle, lines);
+  must(otel_close(&handle));
+  return strstr(lines, what) != NULL;
+}
+
+static void a_resource_names_the_library(void) {
+  static const char mine[] = "OTEL_RESOURCE_ATTRIBUTES=telemetry.sdk.language=d,team=a";
+  hold(names(TEXT(""), "{\"key\":\"telemetry.sdk.name\",\"value\":{\"stringValue\":\"otel_proved\"}}"),
+       "a resource names the library");
+  hold(names(TEXT(""), "{\"key\":\"telemetry.sdk.language\",\"value\":{\"stringValue\":\"c\"}}"),
+       "a resource names C");
+  hold(names(TEXT(""), "{\"key\":\"telemetry.sdk.version\",\"value\":{\"stringValue\":\"0.1.0\"}}"),
+       "a resource names the library's version");
+  hold(names(TEXT(mine), "{\"key\":\"telemetry.sdk.language\",\"value\":{\"stringValue\":\"d\"}}"),
+       "what the settings say of the library counts");
+  hold(names(TEXT(mine), "{\"key\":\"team\",\"value\":{\"stringValue\":\"a\"}}"), "attributes of settings are there");
+}
+
+static void a_parent_is_passed_on_after_a_shutdown(void) {
+  static const char wanted[] = "traceparent: 00-0af7651916cd43dd8448eb211c80319c-b7ad6b7169203331-01\r\n";
+  uint8_t headers[512] = {0};
+  size_t length = 0;
+  otel_handle handle = {0};
+  uint64_t span, child;
+  must(otel_open(&handle, TEXT(""), 7));
+  must(otel_shutdown(&handle));
+  must(otel_start_remote(&handle, 0, TEXT(traceparent), TEXT("a=1"), TEXT(""), OTEL_CLIENT, TEXT("late"), MOMENT,
+                         &span));
+  must(otel_inject(&handle, span, headers, sizeof headers - 1, &length));
+  hold(strstr((const char *)headers, wanted) != NULL, "a span that starts after a shutdown passes its parent on");
+  must(otel_start(&handle, 0, span, OTEL_CLIENT, TEXT("child"), MOMENT, &child));
+  memset(headers, 0, sizeof headers);
+  must(otel_inject(&handle, child, headers, sizeof headers - 1, &length));
+  hold(strstr((const char *)headers, wanted) != NULL, "and so does its child");
+  must(otel_close(&handle));
+}
+
 int main(void) {
   handed_attributes_are_as_gathered_ones();
   a_list_is_refused_as_a_whole();
   a_pipeline_goes_on_after_a_fork();
+  a_resource_names_the_library();
+  a_parent_is_passed_on_after_a_shutdown();
   printf("handed_over: all is so\n");
   return 0;
 }
