@@ -41,7 +41,7 @@ def span(trace, number, parent, name, start, end, **more):
 
 def line(service, *spans):
     """A request of one service."""
-    resource = {"attributes": [attribute("service.name", service)]}
+    resource = {"attributes": [attribute("service.name", service), attribute("host.name", f"{service}-host")]}
     return json.dumps({"resourceSpans": [{"resource": resource, "scopeSpans": [{"spans": list(spans)}]}]}) + "\n"
 
 

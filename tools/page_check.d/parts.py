@@ -219,6 +219,12 @@ def details(browser, pages):
     for wanted in ("serviceshop", "kindclient", "statusunset", f"parent{1:016x}", "offset+40ms", "length50ms",
                    f"start2023-11-14 22:13:20.040 UTC ({inputs.START + 40_000_000})"):
         hold(wanted in "".join(said), f"the details do not say {wanted!r}: {said}")
+    written = [it.get("resource") for it in json.loads(data_of(pages.page("known")))[0]["rows"]]
+    want([it is None for it in written], [False, True, False, False], "which rows have no resource of their own")
+    for place, service in enumerate(["shop", "shop", "db", "shop"], 1):
+        browser.click(f"#rows .line:nth-child({place})")
+        resource = f"service.name={service}\nhost.name={service}-host"
+        hold(["Resource", resource] == texts(browser, "#said > *")[-2:], f"the resource of row {place} is not said")
     browser.click("#rows .line:nth-child(3)")
     hold("faulttimed out" in "".join(texts(browser, "#said > *")), "what went wrong is not said")
     browser.click("#rows .line:nth-child(4)")

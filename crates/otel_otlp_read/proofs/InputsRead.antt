@@ -13,13 +13,13 @@ use Rattle.otel_resource.specs.Resource.{PlainResource}
 use Rattle.otel_export.specs.PlainSpanData.{PlainSpanData, spans_in}
 use Rattle.otel_otlp.specs.Fits.{SpanFits}
 use Rattle.otel_otlp.specs.Otlp.{otlp_line, otlp_lines, otlp_text}
-use Rattle.otel_shown.specs.Shown.{PlainShownSpan, shown_span}
+use Rattle.otel_shown.specs.Shown.{PlainShownResource, PlainShownSpan, shown_span}
 use Rattle.otel_otlp_read.specs.Inputs.{PlainReadText, and_read, begins_with_json, is_blank, is_json, nothing_read}
 use Rattle.otel_otlp_read.specs.Inputs.{of_document, of_line, one_if_none, read_document, read_input, read_lines}
 use Rattle.otel_otlp_read.specs.Inputs.{read_part, read_parts, read_unmarked, spanless_in, text_lines}
 use Rattle.otel_otlp_read.specs.Cuts.{parts, without_mark}
 use Rattle.otel_otlp_read.specs.Kept.{Kept}
-use Rattle.otel_otlp_read.specs.Requests.{read_request, service_of, whole_batch}
+use Rattle.otel_otlp_read.specs.Requests.{read_request, resource_of, whole_batch}
 use Rattle.otel_otlp_read.proofs.Documents.{read_json}
 
 -- a text that is UTF-8 and JSON
@@ -36,23 +36,23 @@ unfolding print_from
 not_blank resource batch = refl
 
 -- what is read of a batch: its spans as they are shown, and nothing is left out
-abbrev pub read_of : List ℕ → List PlainSpanData → PlainReadText
-read_of service batch = record {
-  spans = map (shown_span service) batch;
+abbrev pub read_of : PlainShownResource → List PlainSpanData → PlainReadText
+read_of shown batch = record {
+  spans = map (shown_span shown) batch;
   faults = [];
   spanless = one_if_none batch;
 }
 
-none_whole : (service : List ℕ) (batch : List PlainSpanData)
-    → one_if_none (map (shown_span service) batch) ≡ one_if_none batch
-none_whole service [] = refl
-none_whole service (span ∷ batch) = refl
+none_whole : (shown : PlainShownResource) (batch : List PlainSpanData)
+    → one_if_none (map (shown_span shown) batch) ≡ one_if_none batch
+none_whole shown [] = refl
+none_whole shown (span ∷ batch) = refl
 
 whole_document : (line : ℕ) (resource : PlainResource) (batch : List PlainSpanData)
-    → of_document line (Ok (whole_batch resource batch)) ≡ read_of (service_of resource) batch
+    → of_document line (Ok (whole_batch resource batch)) ≡ read_of (resource_of resource) batch
 whole_document line resource batch =
-    let shown = map (shown_span (service_of resource)) batch in
-    ap (λ n. record { spans = shown; faults = []; spanless = n }) (none_whole (service_of resource) batch)
+    let shown = map (shown_span (resource_of resource)) batch in
+    ap (λ n. record { spans = shown; faults = []; spanless = n }) (none_whole (resource_of resource) batch)
 
 module _ (resource : PlainResource) where
   -- the text of a batch is JSON, and read as its spans
@@ -71,7 +71,7 @@ module _ (resource : PlainResource) where
   -- a line of a batch
   line_back : (number : ℕ) (batch : List PlainSpanData) → Reads batch
       → of_line number (otlp_text resource batch)
-      ≡ read_of (service_of resource) batch
+      ≡ read_of (resource_of resource) batch
   line_back number batch h =
       ap (λ t. cond t nothing_read (of_document number (read_document (otlp_text resource batch))))
       (not_blank resource batch)
@@ -80,7 +80,7 @@ module _ (resource : PlainResource) where
 
   abbrev pub all_of : List (List PlainSpanData) → PlainReadText
   all_of batches = record {
-    spans = map (shown_span (service_of resource)) (spans_in batches);
+    spans = map (shown_span (resource_of resource)) (spans_in batches);
     faults = [];
     spanless = spanless_in batches;
   }
@@ -92,11 +92,11 @@ module _ (resource : PlainResource) where
   lines_back number (batch ∷ batches) h =
       ap (λ first. and_read first (read_lines (number + 1) (map (otlp_text resource) batches ++ [] ∷ [])))
       (line_back number batch h.0)
-      ∙ ap (and_read (read_of (service_of resource) batch))
+      ∙ ap (and_read (read_of (resource_of resource) batch))
       (lines_back (number + 1) batches h.1)
       ∙ ap (λ spans. record { spans = spans; faults = []; spanless = spanless_in (batch ∷ batches) })
-      (sym (map-append (shown_span (service_of resource)) batch (spans_in batches))
-      ∙ ap (map (shown_span (service_of resource))) (sym (flat_map-cons (λ spans. spans) batch batches)))
+      (sym (map-append (shown_span (resource_of resource)) batch (spans_in batches))
+      ∙ ap (map (shown_span (resource_of resource))) (sym (flat_map-cons (λ spans. spans) batch batches)))
 
   begins_back : (batches : List (List PlainSpanData)) → AllByRecursion Reads batches
       → begins_with_json (map (otlp_text resource) batches ++ [] ∷ []) ≡ true

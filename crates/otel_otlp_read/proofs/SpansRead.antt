@@ -14,20 +14,21 @@ use Rattle.otel_otlp.specs.Fields.{items_of}
 use Rattle.otel_otlp.specs.Fits.{AttributeFits, EventFits, LinkFits, SpanFits}
 use Rattle.otel_otlp.specs.OtlpSpan.{event_json, kind_number, link_json, parent_text, span_json, status_json}
 use Rattle.otel_otlp.specs.OtlpValues.{attribute_json}
-use Rattle.otel_shown.specs.Shown.{shown_event, shown_link}
+use Rattle.otel_shown.specs.Shown.{PlainShownResource, shown_event, shown_link}
 use Rattle.otel_shown.specs.Shown as shown
 use Rattle.otel_otlp_read.specs.declared.fault.Fault.TheVariants as faults
 use Rattle.otel_otlp_read.specs.declared.left_out.ItemList.{ItemList}
 use Rattle.otel_otlp_read.specs.declared.left_out.ItemList.TheVariants as lists
-use Rattle.otel_otlp_read.specs.Kept.{kept_from}
+use Rattle.otel_otlp_read.specs.Kept.{kept_by, kept_from, of_part}
 use Rattle.otel_otlp_read.specs.Members.{listed}
-use Rattle.otel_otlp_read.specs.Reading.{◌>>=◌, joined, needed, only}
+use Rattle.otel_otlp_read.specs.Reading.{needed}
 use Rattle.otel_otlp_read.specs.Numbers.{id_of, is_integer, moment_of, parent_number, parent_of, whole_number}
-use Rattle.otel_otlp_read.specs.SpanLists.{attribute_line, attributes_of, event_in, events_of, lines_of, link_in, links_of}
+use Rattle.otel_otlp_read.specs.SpanLists.{attribute_line, attributes_of, event_at, event_in, events_of}
+use Rattle.otel_otlp_read.specs.SpanLists.{link_at, link_in, links_of}
 use Rattle.otel_otlp_read.specs.SpanParts.{kind_of, numbered_code, numbered_kind, span_in, status_in, status_of}
 use Rattle.otel_otlp_read.proofs.DigitsRead.{decimal_whole, hex_id, hex_parent, signed_integer}
-use Rattle.otel_otlp_read.proofs.KeptReading.{items_back}
-use Rattle.otel_otlp_read.proofs.ValuesRead.{attribute_back, joined_back, listed-items_of}
+use Rattle.otel_otlp_read.proofs.KeptReading.{all_kept, items_back, kept_back}
+use Rattle.otel_otlp_read.proofs.ValuesRead.{attribute_back, listed-items_of}
 
 -- a moment
 moment_back : (n : ℕ) → n < 2 ^ 64 → needed faults.TimeForm (whole_number (decimal n)) ≡ Ok n
@@ -61,64 +62,60 @@ status_back unset = rw (decimal_whole 0 (omega arith), digit_integer 0 (omega ar
 status_back ok = rw (decimal_whole 1 (omega arith)) refl
 status_back (error description) = rw (decimal_whole 2 (omega arith)) refl
 
--- the attributes of an event or a link
-attribute_lines_back : (attributes : List PlainKeyValue) → AllByRecursion AttributeFits attributes
-    → joined attribute_line (listed (items_of (map attribute_json attributes))) ≡ Ok (shown.attribute_lines attributes)
-attribute_lines_back attributes h =
-    ap (joined attribute_line) (listed-items_of (map attribute_json attributes))
-    ∙ joined_back attribute_json attribute_line shown.attribute_line AttributeFits attribute_back attributes h
-
--- an event
-event_lines_back : (event : PlainEvent) → EventFits event
-    → lines_of (event_json event) ≡ Ok (shown.attribute_lines event.attributes)
-unfolding lines_of
-event_lines_back event h = attribute_lines_back event.attributes h.attributes
-
-event_back : (event : PlainEvent) → EventFits event → event_in (event_json event) ≡ Ok (shown_event event)
-unfolding event_in
-event_back event h =
-    ap (λ r. r >>= λ timestamp. lines_of (event_json event)
-    >>= λ lines. Ok (record { timestamp = timestamp; name = event.name; attributes = lines }))
-    (moment_back event.timestamp h.timestamp)
-    ∙ ap (λ r. r >>= λ lines. Ok (record { timestamp = event.timestamp; name = event.name; attributes = lines }))
-    (event_lines_back event h)
-
--- a link
-link_lines_back : (link : PlainLink) → LinkFits link → lines_of (link_json link) ≡ Ok (shown.attribute_lines link.attributes)
-unfolding lines_of
-link_lines_back link h = attribute_lines_back link.attributes h.attributes
-
-link_back : (link : PlainLink) → LinkFits link → link_in (link_json link) ≡ Ok (shown_link link)
-unfolding link_in
-link_back link h = rw (
-  hex_id 32 link.span_context.trace_id (omega (arith, h.span_context.trace_id)),
-  hex_id 16 link.span_context.span_id (omega (arith, h.span_context.span_id)),
-  link_lines_back link h,
-) refl
-
 -- attributes, as they stand in a member: none is left out
 attributes_back : (list : ItemList) (attributes : List PlainKeyValue) → AllByRecursion AttributeFits attributes
-    → kept_from attribute_line list 1 (map attribute_json attributes)
-    ≡ record { kept = shown.attribute_lines attributes; left_out = [] }
-attributes_back list = items_back attribute_line list attribute_json shown.attribute_line AttributeFits attribute_back
+    → kept_from attribute_line list 1 (listed (items_of (map attribute_json attributes)))
+    ≡ all_kept (shown.attribute_lines attributes)
+attributes_back list attributes h =
+    ap (kept_from attribute_line list 1) (listed-items_of (map attribute_json attributes))
+    ∙ items_back attribute_line list attribute_json shown.attribute_line AttributeFits attribute_back attributes h
 
--- and events
-all_events_back : (list : ItemList) (events : List PlainEvent) → AllByRecursion EventFits events
-    → kept_from (λ item. only (event_in item)) list 1 (map event_json events)
-    ≡ record { kept = map shown_event events; left_out = [] }
-all_events_back list events h =
-    items_back (λ item. only (event_in item)) list event_json (λ e. shown_event e ∷ []) EventFits
-    (λ e k. ap only (event_back e k)) events h
-    ∙ ap (λ kept. record { kept = kept; left_out = [] }) (flat_map_single shown_event events)
+-- an event
+event_attributes_back : (list : ItemList) (event : PlainEvent) → EventFits event
+    → attributes_of list (event_json event) ≡ Ok (all_kept (shown.attribute_lines event.attributes))
+unfolding attributes_of
+event_attributes_back list event h = ap Ok (attributes_back list event.attributes h.attributes)
+
+event_back : (span_id number : ℕ) (event : PlainEvent) → EventFits event
+    → event_in span_id number (event_json event) ≡ Ok (all_kept (shown_event event ∷ []))
+unfolding event_in
+event_back span_id number event h = rw (
+  moment_back event.timestamp h.timestamp,
+  event_attributes_back (lists.EventAttributes span_id number) event h,
+) refl
+
+-- a link
+link_attributes_back : (list : ItemList) (link : PlainLink) → LinkFits link
+    → attributes_of list (link_json link) ≡ Ok (all_kept (shown.attribute_lines link.attributes))
+unfolding attributes_of
+link_attributes_back list link h = ap Ok (attributes_back list link.attributes h.attributes)
+
+link_back : (span_id number : ℕ) (link : PlainLink) → LinkFits link
+    → link_in span_id number (link_json link) ≡ Ok (all_kept (shown_link link ∷ []))
+unfolding link_in
+link_back span_id number link h = rw (
+  hex_id 32 link.span_context.trace_id (omega (arith, h.span_context.trace_id)),
+  hex_id 16 link.span_context.span_id (omega (arith, h.span_context.span_id)),
+  link_attributes_back (lists.LinkAttributes span_id number) link h,
+) refl
+
+-- events
+all_events_back : (span_id : ℕ) (events : List PlainEvent) → AllByRecursion EventFits events
+    → kept_by (event_at span_id) 1 (map event_json events) ≡ all_kept (map shown_event events)
+all_events_back span_id events h =
+    kept_back (event_at span_id) event_json (λ e. shown_event e ∷ []) EventFits
+    (λ number e k. ap (of_part (record { list = lists.SpanEvents span_id; number = number }))
+    (event_back span_id number e k)) 1 events h
+    ∙ ap all_kept (flat_map_single shown_event events)
 
 -- and links
-all_links_back : (list : ItemList) (links : List PlainLink) → AllByRecursion LinkFits links
-    → kept_from (λ item. only (link_in item)) list 1 (map link_json links)
-    ≡ record { kept = map shown_link links; left_out = [] }
-all_links_back list links h =
-    items_back (λ item. only (link_in item)) list link_json (λ l. shown_link l ∷ []) LinkFits
-    (λ l k. ap only (link_back l k)) links h
-    ∙ ap (λ kept. record { kept = kept; left_out = [] }) (flat_map_single shown_link links)
+all_links_back : (span_id : ℕ) (links : List PlainLink) → AllByRecursion LinkFits links
+    → kept_by (link_at span_id) 1 (map link_json links) ≡ all_kept (map shown_link links)
+all_links_back span_id links h =
+    kept_back (link_at span_id) link_json (λ l. shown_link l ∷ []) LinkFits
+    (λ number l k. ap (of_part (record { list = lists.SpanLinks span_id; number = number }))
+    (link_back span_id number l k)) 1 links h
+    ∙ ap all_kept (flat_map_single shown_link links)
 
 -- the members of a span that is written
 module _ (span : PlainSpanData) (h : SpanFits span) where
@@ -147,35 +144,27 @@ module _ (span : PlainSpanData) (h : SpanFits span) where
   span_status_back : status_of (span_json span) ≡ Ok span.status
   span_status_back = status_back span.status
 
-  span_attributes_back : (span_id : ℕ)
-      → attributes_of span_id (span_json span)
-      ≡ Ok (record { kept = shown.attribute_lines span.attributes; left_out = [] })
+  span_attributes_back : (list : ItemList)
+      → attributes_of list (span_json span) ≡ Ok (all_kept (shown.attribute_lines span.attributes))
   unfolding attributes_of
-  span_attributes_back span_id =
-      ap (λ js. Ok (kept_from attribute_line (lists.SpanAttributes span_id) 1 js))
-      (listed-items_of (map attribute_json span.attributes))
-      ∙ ap Ok (attributes_back (lists.SpanAttributes span_id) span.attributes h.attributes)
+  span_attributes_back list = ap Ok (attributes_back list span.attributes h.attributes)
 
-  span_events_back : (span_id : ℕ)
-      → events_of span_id (span_json span) ≡ Ok (record { kept = map shown_event span.events.events; left_out = [] })
+  span_events_back : (span_id : ℕ) → events_of span_id (span_json span) ≡ Ok (all_kept (map shown_event span.events.events))
   unfolding events_of
   span_events_back span_id =
-      ap (λ js. Ok (kept_from (λ item. only (event_in item)) (lists.SpanEvents span_id) 1 js))
-      (listed-items_of (map event_json span.events.events))
-      ∙ ap Ok (all_events_back (lists.SpanEvents span_id) span.events.events h.events)
+      ap (λ js. Ok (kept_by (event_at span_id) 1 js)) (listed-items_of (map event_json span.events.events))
+      ∙ ap Ok (all_events_back span_id span.events.events h.events)
 
-  span_links_back : (span_id : ℕ)
-      → links_of span_id (span_json span) ≡ Ok (record { kept = map shown_link span.links.links; left_out = [] })
+  span_links_back : (span_id : ℕ) → links_of span_id (span_json span) ≡ Ok (all_kept (map shown_link span.links.links))
   unfolding links_of
   span_links_back span_id =
-      ap (λ js. Ok (kept_from (λ item. only (link_in item)) (lists.SpanLinks span_id) 1 js))
-      (listed-items_of (map link_json span.links.links))
-      ∙ ap Ok (all_links_back (lists.SpanLinks span_id) span.links.links h.links)
+      ap (λ js. Ok (kept_by (link_at span_id) 1 js)) (listed-items_of (map link_json span.links.links))
+      ∙ ap Ok (all_links_back span_id span.links.links h.links)
 
-  pub span_back : (service : List ℕ) → span_in service (span_json span)
-      ≡ Ok (record { span = shown.shown_span service span; left_out = [] })
+  pub span_back : (resource : PlainShownResource) → span_in resource (span_json span)
+      ≡ Ok (record { span = shown.shown_span resource span; left_out = [] })
   unfolding span_in
-  span_back service =
+  span_back resource =
       rw (
         trace_id_back,
         span_id_back,
@@ -184,7 +173,7 @@ module _ (span : PlainSpanData) (h : SpanFits span) where
         start_back,
         end_back,
         span_status_back,
-        span_attributes_back span.span_context.span_id,
+        span_attributes_back (lists.SpanAttributes span.span_context.span_id),
         span_events_back span.span_context.span_id,
         span_links_back span.span_context.span_id,
       ) refl

@@ -37,7 +37,7 @@ listed-items_of [] = refl
 listed-items_of (j ∷ js) = ap (λ rest. j ∷ rest) (listed-items_of js)
 
 -- items that are each read back are read back one after the other
-pub joined_back : {X A : Type 0} (json : X → Json) (read : Json → Result (List A) Fault) (out : X → List A)
+joined_back : {X A : Type 0} (json : X → Json) (read : Json → Result (List A) Fault) (out : X → List A)
     (P : X → Type 0) → ((x : X) → P x → read (json x) ≡ Ok (out x)) → (xs : List X) → AllByRecursion P xs
     → joined read (map json xs) ≡ Ok (flat_map out xs)
 joined_back json read out P back [] h = refl

@@ -56,7 +56,8 @@ shown_integer v = needed faults.IntForm (option_and_then integer_text (number_te
 
 -- the words for what JSON has no number for
 abbrev pub is_float_word : List ℕ → Bool
-is_float_word text = bytes_eq text (codes "NaN") || bytes_eq text (codes "Infinity") || bytes_eq text (codes "-Infinity")
+is_float_word text =
+    bytes_eq text (codes "NaN") || bytes_eq text (codes "Infinity") || bytes_eq text (codes "-Infinity")
 
 -- whether all of a text was read
 abbrev pub is_read : Option (List ℕ) → Bool

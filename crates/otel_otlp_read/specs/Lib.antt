@@ -6,7 +6,7 @@ pub mod Numbers
 pub mod AnyValue
 pub mod SpanLists
 pub mod SpanParts
-pub mod Services
+pub mod Resources
 pub mod Requests
 pub mod Cuts
 pub mod Inputs

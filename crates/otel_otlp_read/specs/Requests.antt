@@ -2,7 +2,6 @@
 -- in order. A span, a scope or a resource that does not read is left out.
 use Rattle.std.specs.Prelude.{ℕ, ◌+◌, ◌||◌, Bool, false, true, List, [], ◌∷◌, codes, Option, Some, None}
 use Rattle.std.specs.Prelude.{Result, Ok, Err, if◌then◌else◌, is_some, map, option_and_then}
-use Rattle.std.specs.Str.{bytes_eq}
 use Rattle.std.specs.FinMap.{entries}
 use Rattle.json.specs.Json.{Json, null, boolean, number, string, array, object, no_members, member}
 use Rattle.json.specs.Find.{get}
@@ -10,7 +9,7 @@ use Rattle.opentelemetry.specs.Plain.{PlainValue}
 use Rattle.opentelemetry.specs.ValueText.{value_text}
 use Rattle.otel_resource.specs.Resource.{PlainResource}
 use Rattle.otel_export.specs.PlainSpanData.{PlainSpanData}
-use Rattle.otel_shown.specs.Shown.{PlainShownSpan, shown_span}
+use Rattle.otel_shown.specs.Shown.{PlainShownResource, PlainShownSpan, shown_span}
 use Rattle.otel_otlp_read.specs.declared.fault.Fault.{Fault}
 use Rattle.otel_otlp_read.specs.declared.fault.Fault.TheVariants as faults
 use Rattle.otel_otlp_read.specs.declared.left_out.ItemList.{ItemList}
@@ -18,14 +17,14 @@ use Rattle.otel_otlp_read.specs.declared.left_out.ItemList.TheVariants as lists
 use Rattle.otel_otlp_read.specs.Reading.{◌>>=◌}
 use Rattle.otel_otlp_read.specs.Kept.{Kept, and_kept, kept_by, of_part}
 use Rattle.otel_otlp_read.specs.Members.{given, list_of, object_or, own_name}
-use Rattle.otel_otlp_read.specs.Services.{first_or_empty, service_member}
+use Rattle.otel_otlp_read.specs.Resources.{PlainPair, pairs_member, shown_resource}
 use Rattle.otel_otlp_read.specs.SpanParts.{span_in}
 
 -- a span of a list, by its number there
-abbrev pub span_at : List ℕ → ItemList → ℕ → Json → Kept PlainShownSpan
-span_at service list n j =
+abbrev pub span_at : PlainShownResource → ItemList → ℕ → Json → Kept PlainShownSpan
+span_at shown list n j =
     of_part (record { list = list; number = n })
-    (span_in service j >>= λ read. Ok (record { kept = read.span ∷ []; left_out = read.left_out }))
+    (span_in shown j >>= λ read. Ok (record { kept = read.span ∷ []; left_out = read.left_out }))
 
 -- the items of a scope that are its spans
 unfoldable pub scope_items : Json → Result (List Json) Fault
@@ -34,10 +33,10 @@ scope_items j = do
   list_of (codes "spans") faults.SpansType j
 
 -- the spans of one scope of a resource, by both numbers
-unfoldable pub scope_spans_in : List ℕ → ℕ → ℕ → Json → Kept PlainShownSpan
-scope_spans_in service resource n j =
+unfoldable pub scope_spans_in : PlainShownResource → ℕ → ℕ → Json → Kept PlainShownSpan
+scope_spans_in shown resource n j =
     of_part (record { list = lists.ScopeSpans resource; number = n })
-    (scope_items j >>= λ items. Ok (kept_by (span_at service (lists.Spans resource n)) 1 items))
+    (scope_items j >>= λ items. Ok (kept_by (span_at shown (lists.Spans resource n)) 1 items))
 
 -- the name that older versions have in the place of `scopeSpans`
 unfoldable pub is_misnamed : Json → Bool
@@ -53,16 +52,17 @@ resource_items j = do
   _ ← well_named j
   list_of (codes "scopeSpans") faults.ScopeSpansType j
 
--- the spans of scopes, under the first of these names of the service
-abbrev pub scopes_in : Kept (List ℕ) → ℕ → List Json → Kept PlainShownSpan
-scopes_in names n items =
-    and_kept (record { kept = []; left_out = names.left_out }) (kept_by (scope_spans_in (first_or_empty names.kept) n) 1 items)
+-- the spans of scopes, of a resource of these attributes
+abbrev pub scopes_in : Kept PlainPair → ℕ → List Json → Kept PlainShownSpan
+scopes_in read n items =
+    and_kept (record { kept = []; left_out = read.left_out })
+    (kept_by (scope_spans_in (shown_resource read.kept) n) 1 items)
 
 -- the spans of one resource, the one of this number
 unfoldable pub resource_spans_in : ℕ → Json → Kept PlainShownSpan
 resource_spans_in n j =
     of_part (record { list = lists.ResourceSpans; number = n })
-    (resource_items j >>= λ items. Ok (scopes_in (service_member n j) n items))
+    (resource_items j >>= λ items. Ok (scopes_in (pairs_member n j) n items))
 
 -- an object that says nothing
 abbrev pub is_empty_object : Json → Bool
@@ -115,15 +115,14 @@ read_request j = do
   items ← resources_in j
   Ok (kept_by resource_spans_in 1 items)
 
--- the name of the service that a resource of ours says: the text of its attribute `service.name`, empty where it has none
-abbrev pub first_named : List (List ℕ × PlainValue) → List ℕ
-first_named [] = []
-first_named (pair ∷ pairs) =
-    if bytes_eq pair.0 (codes "service.name") then value_text pair.1 else first_named pairs
+-- a key and a value as they are shown
+abbrev pub pair_of : List ℕ × PlainValue → PlainPair
+pair_of pair = (pair.0, value_text pair.1)
 
-abbrev pub service_of : PlainResource → List ℕ
-service_of resource = first_named (entries resource.attributes)
+-- a resource of ours as it is shown: the text of its attribute `service.name`, empty where it has none, and all of them
+abbrev pub resource_of : PlainResource → PlainShownResource
+resource_of resource = shown_resource (map pair_of (entries resource.attributes))
 
 -- what is read of a batch of ours: all of it
 abbrev pub whole_batch : PlainResource → List PlainSpanData → Kept PlainShownSpan
-whole_batch resource batch = record { kept = map (shown_span (service_of resource)) batch; left_out = [] }
+whole_batch resource batch = record { kept = map (shown_span (resource_of resource)) batch; left_out = [] }

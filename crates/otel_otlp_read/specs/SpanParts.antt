@@ -5,9 +5,10 @@ use Rattle.json.specs.Json.{Json, null, boolean, number, string, array, object}
 use Rattle.opentelemetry.specs.Plain.{PlainStatus, unset, error, ok}
 use Rattle.opentelemetry.specs.declared.trace.span_kind.SpanKind.{SpanKind}
 use Rattle.opentelemetry.specs.declared.trace.span_kind.SpanKind.TheVariants as kinds
-use Rattle.otel_shown.specs.Shown.{PlainShownSpan}
+use Rattle.otel_shown.specs.Shown.{PlainShownResource, PlainShownSpan}
 use Rattle.otel_otlp_read.specs.declared.fault.Fault.{Fault}
 use Rattle.otel_otlp_read.specs.declared.fault.Fault.TheVariants as faults
+use Rattle.otel_otlp_read.specs.declared.left_out.ItemList.TheVariants as lists
 use Rattle.otel_otlp_read.specs.declared.left_out.LeftOut.{LeftOut}
 use Rattle.otel_otlp_read.specs.declared.status.StatusCode.{StatusCode}
 use Rattle.otel_otlp_read.specs.declared.status.StatusCode.TheVariants as status_codes
@@ -87,14 +88,14 @@ status_in j = do
 abbrev pub status_of : Json → Result PlainStatus Fault
 status_of j = or_default unset status_in (given (codes "status") j)
 
--- a span as it is shown, and which of its attributes, events and links were left out
+-- a span as it is shown, and what of its attributes, events and links was left out
 pub record PlainReadSpan : Type 0 where
   pub span : PlainShownSpan
   pub left_out : List LeftOut
 
--- a span of a service
-unfoldable pub span_in : List ℕ → Json → Result PlainReadSpan Fault
-span_in service j = do
+-- a span of a resource
+unfoldable pub span_in : PlainShownResource → Json → Result PlainReadSpan Fault
+span_in resource j = do
   _ ← object_or faults.SpanType j
   trace_id ← id_of (codes "traceId") 32 faults.TraceIdMissing faults.TraceIdForm j
   span_id ← id_of (codes "spanId") 16 faults.SpanIdMissing faults.SpanIdForm j
@@ -104,7 +105,7 @@ span_in service j = do
   start_time ← moment_of (codes "startTimeUnixNano") j
   end_time ← moment_of (codes "endTimeUnixNano") j
   status ← status_of j
-  attributes ← attributes_of span_id j
+  attributes ← attributes_of (lists.SpanAttributes span_id) j
   events ← events_of span_id j
   links ← links_of span_id j
   Ok (record {
@@ -113,7 +114,8 @@ span_in service j = do
       span_id = span_id;
       parent_span_id = parent_span_id;
       name = name;
-      service = service;
+      service = resource.service;
+      resource = resource.attributes;
       kind = kind;
       start_time = start_time;
       end_time = end_time;

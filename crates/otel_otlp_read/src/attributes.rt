@@ -1,19 +1,16 @@
-//! Attributes, as lines of one text. One of a span that does not read is left out, and named by its place; those of an
-//! event or a link all read, or it does not.
+//! Attributes, as lines of one text. One that does not read is left out, and named by its place.
 
 ghost use Rattle.std.specs.Prelude.{◌≡◌, IfOk, OnOk, map, string_bytes};
 ghost use Rattle.json.specs.Value.{value_view};
-ghost use Rattle.otel_otlp_read.specs.declared.left_out.ItemList.TheVariants.{SpanAttributes};
 ghost use Rattle.otel_otlp_read.specs.Kept.{kept_from};
-ghost use Rattle.otel_otlp_read.specs.Reading.{Gives, grown, joined};
-ghost use Rattle.otel_otlp_read.specs.SpanLists.{attribute_line, attributes_of, lines_of};
+ghost use Rattle.otel_otlp_read.specs.Reading.{Gives};
+ghost use Rattle.otel_otlp_read.specs.SpanLists.{attribute_line, attributes_of};
 
 use crate::fault::{Fault, ReadError};
 use crate::left_out::{ItemList, ItemPlace, LeftOut};
 use crate::member::list;
 use crate::value::{VALUE_DEPTH, push_pair};
 use json::Value;
-use opentelemetry::SpanId;
 use std::alloc::{AllocError, Global};
 use std::marker::Model;
 
@@ -76,57 +73,35 @@ fn write_attribute(line: &mut String, attribute: &Value) -> Result<(), ReadError
     push_pair(line, attribute, VALUE_DEPTH, false)
 }
 
-/// What is read of attributes, one after the other.
+/// What is read of attributes, one after the other, which stand in this list.
 fn each_attribute(
     alloc: Global,
-    span_id: SpanId,
+    list: &ItemList,
     items: &[Value],
 ) -> Result<ReadAttributes, AllocError>
-    ensures { IfOk result (λ read. read
-        ≡ kept_from attribute_line (SpanAttributes span_id) 1 (map value_view items.now)) }
+    ensures { IfOk result (λ read. read ≡ kept_from attribute_line list.now 1 (map value_view items.now)) }
 {
     let mut read = ReadAttributes::new(alloc);
     let mut line = String::new(alloc);
     for (place, attribute) in items.iter().enumerate() {
-        let list = ItemList::SpanAttributes(span_id);
-        let number = place as u64 + 1;
-        read.add(ItemPlace { list, number }, attribute, &mut line)?;
+        let item = ItemPlace {
+            list: *list,
+            number: place as u64 + 1,
+        };
+        read.add(item, attribute, &mut line)?;
     }
     Ok(read)
 }
 
-/// What is read of the attributes of a span, in order.
+/// What is read of the attributes of a span, an event or a link, in order: this list of them.
 #[tactic(auto, unfolding(crate::specs::SpanLists::attributes_of))]
 pub(crate) fn attributes(
     alloc: Global,
-    span_id: SpanId,
-    span: &Value,
+    attribute_list: ItemList,
+    object: &Value,
 ) -> Result<ReadAttributes, ReadError>
-    ensures { Gives (λ read. read) result (attributes_of span_id (value_view span.now)) }
-{
-    let items = list(span, "attributes", Fault::AttributesType)?;
-    Ok(each_attribute(alloc, span_id, items)?)
-}
-
-/// Appends the lines of attributes that all have to read.
-fn push_lines(out: &mut String, items: &[Value]) -> Result<(), ReadError>
-    ensures { Gives (λ _. string_bytes out.new) result
-        (grown (string_bytes out.old) (joined attribute_line (map value_view items.now))) }
-{
-    for attribute in items {
-        out.push_str("\n")?;
-        push_pair(out, attribute, VALUE_DEPTH, false)?;
-    }
-    Ok(())
-}
-
-/// The lines of the attributes of an event or a link.
-#[tactic(auto, unfolding(crate::specs::SpanLists::lines_of))]
-pub(crate) fn lines_of(alloc: Global, object: &Value) -> Result<String, ReadError>
-    ensures { Gives (λ lines. string_bytes lines) result (lines_of (value_view object.now)) }
+    ensures { Gives (λ read. read) result (attributes_of attribute_list (value_view object.now)) }
 {
     let items = list(object, "attributes", Fault::AttributesType)?;
-    let mut lines = String::new(alloc);
-    push_lines(&mut lines, items)?;
-    Ok(lines)
+    Ok(each_attribute(alloc, &attribute_list, items)?)
 }

@@ -9,7 +9,7 @@ ghost use Rattle.otel_otlp.specs.Fits.{ResourceFits, SpanFits};
 ghost use Rattle.otel_otlp.specs.Otlp.{otlp_lines, otlp_text, request};
 ghost use Rattle.otel_shown.specs.Shown.{shown_span};
 ghost use Rattle.otel_otlp_read.specs.Inputs.{read_document, read_input, spanless_in};
-ghost use Rattle.otel_otlp_read.specs.Requests.{read_request, service_of, whole_batch};
+ghost use Rattle.otel_otlp_read.specs.Requests.{read_request, resource_of, whole_batch};
 
 use otel_otlp::laws::{lines_are_cut, lines_read_back, runs_join};
 
@@ -36,7 +36,7 @@ pub fn lines_are_read()
         → AllByRecursion (λ batch. IsUtf8 (otlp_text resource batch)) batches
         → read_input (otlp_lines resource batches)
         ≡ record {
-          spans = map (shown_span (service_of resource)) (spans_in batches);
+          spans = map (shown_span (resource_of resource)) (spans_in batches);
           faults = [];
           spanless = spanless_in batches;
         } }

@@ -19,7 +19,11 @@ pub enum ItemList {
     Spans(u64, u64),
     SpanAttributes(SpanId),
     SpanEvents(SpanId),
+    /// The attributes of an event of a span, by its number there.
+    EventAttributes(SpanId, u64),
     SpanLinks(SpanId),
+    /// The attributes of a link of a span, by its number there.
+    LinkAttributes(SpanId, u64),
 }
 
 /// An item of such a list, by its number there, from 1.

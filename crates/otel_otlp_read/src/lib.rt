@@ -18,7 +18,7 @@ mod link;
 mod member;
 mod number;
 mod request;
-mod service;
+mod resource;
 mod span;
 mod status;
 mod value;

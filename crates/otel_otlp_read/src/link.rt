@@ -1,13 +1,12 @@
-//! The links of a span. One that does not read is left out, and named by its place.
+//! The links of a span. One that does not read is left out, and named by its place; so is an attribute of one.
 
 ghost use Rattle.std.specs.Prelude.{◌≡◌, IfOk, OnOk, map};
 ghost use Rattle.json.specs.Value.{value_view};
-ghost use Rattle.otel_otlp_read.specs.declared.left_out.ItemList.TheVariants.{SpanLinks};
-ghost use Rattle.otel_otlp_read.specs.Kept.{kept_from};
-ghost use Rattle.otel_otlp_read.specs.Reading.{Gives, only};
-ghost use Rattle.otel_otlp_read.specs.SpanLists.{link_in, links_of};
+ghost use Rattle.otel_otlp_read.specs.Kept.{kept_by};
+ghost use Rattle.otel_otlp_read.specs.Reading.{Gives};
+ghost use Rattle.otel_otlp_read.specs.SpanLists.{link_at, link_in, links_of};
 
-use crate::attributes::lines_of;
+use crate::attributes::{ReadAttributes, attributes};
 use crate::fault::{Fault, ReadError};
 use crate::left_out::{ItemList, ItemPlace, LeftOut};
 use crate::member::{list, object};
@@ -18,7 +17,24 @@ use otel_shown::ShownLink;
 use std::alloc::{AllocError, Global};
 use std::marker::Model;
 
-/// The links that read, and the others.
+/// A link, and which of its attributes do not read.
+#[derive(Drop)]
+struct ReadLink {
+    link: ShownLink,
+    left_out: Vec<LeftOut>,
+}
+
+impl Model for ReadLink {
+    ghost use Rattle.std.specs.Prelude.{[], ◌∷◌};
+    ghost use Rattle.otel_shown.specs.Shown.{PlainShownLink};
+    ghost use Rattle.otel_otlp_read.specs.Kept.{Kept};
+
+    ghost Value = { Kept PlainShownLink };
+
+    ghost view = { λ read. record { kept = read.link ∷ []; left_out = read.left_out.items } };
+}
+
+/// The links that read, and what is left out.
 #[derive(Drop)]
 pub(crate) struct ReadLinks {
     pub(crate) links: Vec<ShownLink>,
@@ -35,7 +51,7 @@ impl Model for ReadLinks {
 }
 
 impl ReadLinks {
-    ghost use Rattle.otel_otlp_read.specs.Kept.{and_kept, none_kept, of_item};
+    ghost use Rattle.otel_otlp_read.specs.Kept.{and_kept, none_kept};
 
     /// None.
     fn new(alloc: Global) -> ReadLinks
@@ -47,46 +63,59 @@ impl ReadLinks {
         }
     }
 
-    /// Appends the link at a place.
-    fn add(&mut self, alloc: Global, item: ItemPlace, value: &Value) -> Result<(), AllocError>
+    /// Appends the link of a span by its number there.
+    fn add(
+        &mut self,
+        alloc: Global,
+        span_id: SpanId,
+        number: u64,
+        value: &Value,
+    ) -> Result<(), AllocError>
         ensures { OnOk result (self.new
-            ≡ and_kept self.old (of_item item (only (link_in (value_view value.now))))) }
+            ≡ and_kept self.old (link_at span_id number (value_view value.now))) }
     {
-        match link(alloc, value) {
-            Ok(link) => self.links.push(link)?,
-            Err(ReadError::Fault(fault)) => self.left_out.push(LeftOut { item, fault })?,
-            Err(ReadError::OutOfMemory) => return Err(AllocError),
+        match link(alloc, span_id, number, value) {
+            Ok(read) => {
+                self.left_out.extend_from_slice(&read.left_out)?;
+                self.links.push(read.link)?;
+                Ok(())
+            }
+            Err(ReadError::Fault(fault)) => {
+                let list = ItemList::SpanLinks(span_id);
+                let item = ItemPlace { list, number };
+                self.left_out.push(LeftOut { item, fault })?;
+                Ok(())
+            }
+            Err(ReadError::OutOfMemory) => Err(AllocError),
         }
-        Ok(())
     }
 }
 
-/// A link: the ids of its span, and its attributes.
+/// A link of a span: the ids of the span that it points to, and its attributes.
 #[tactic(auto, unfolding(crate::specs::SpanLists::link_in))]
-fn link(alloc: Global, link: &Value) -> Result<ShownLink, ReadError>
-    ensures { Gives (λ link. link) result (link_in (value_view link.now)) }
+fn link(alloc: Global, owner: SpanId, number: u64, link: &Value) -> Result<ReadLink, ReadError>
+    ensures { Gives (λ read. read) result (link_in owner number (value_view link.now)) }
 {
     object(link, Fault::LinkType)?;
     let trace_id = trace_id(link)?;
     let span_id = span_id(link)?;
-    let attributes = lines_of(alloc, link)?;
-    Ok(ShownLink {
+    let list = ItemList::LinkAttributes(owner, number);
+    let ReadAttributes { lines, left_out } = attributes(alloc, list, link)?;
+    let link = ShownLink {
         trace_id,
         span_id,
-        attributes,
-    })
+        attributes: lines,
+    };
+    Ok(ReadLink { link, left_out })
 }
 
 /// What is read of links, one after the other.
 fn each_link(alloc: Global, span_id: SpanId, items: &[Value]) -> Result<ReadLinks, AllocError>
-    ensures { IfOk result (λ read. read
-        ≡ kept_from (λ item. only (link_in item)) (SpanLinks span_id) 1 (map value_view items.now)) }
+    ensures { IfOk result (λ read. read ≡ kept_by (link_at span_id) 1 (map value_view items.now)) }
 {
     let mut read = ReadLinks::new(alloc);
     for (place, link) in items.iter().enumerate() {
-        let list = ItemList::SpanLinks(span_id);
-        let number = place as u64 + 1;
-        read.add(alloc, ItemPlace { list, number }, link)?;
+        read.add(alloc, span_id, place as u64 + 1, link)?;
     }
     Ok(read)
 }

@@ -14,10 +14,10 @@ ghost use Rattle.otel_otlp_read.specs.Requests.{span_at, well_named};
 use crate::fault::{Fault, ReadError};
 use crate::left_out::{ItemList, ItemPlace, LeftOut};
 use crate::member::{given, list, object, own_name};
-use crate::service::{ReadNames, service};
+use crate::resource::{ReadPairs, pairs};
 use crate::span::span;
 use json::Value;
-use otel_shown::ShownSpan;
+use otel_shown::{ShownResource, ShownSpan};
 use std::alloc::{AllocError, Global};
 use std::marker::Model;
 use std::slice;
@@ -62,14 +62,14 @@ impl ReadSpans {
 fn push_span(
     alloc: Global,
     out: &mut ReadSpans,
-    service: &str,
+    shown: &ShownResource,
     item: ItemPlace,
     value: &Value,
 ) -> Result<(), AllocError>
     ensures { OnOk result (out.new
-        ≡ and_kept out.old (span_at service.now item.list item.number (value_view value.now))) }
+        ≡ and_kept out.old (span_at shown.now item.list item.number (value_view value.now))) }
 {
-    match span(alloc, service, value) {
+    match span(alloc, shown, value) {
         Ok(read) => {
             out.left_out.extend_from_slice(&read.left_out)?;
             out.spans.push(read.span)?;
@@ -91,17 +91,17 @@ struct ScopePlace {
 fn push_spans(
     alloc: Global,
     out: &mut ReadSpans,
-    service: &str,
+    shown: &ShownResource,
     scope: ScopePlace,
     items: &[Value],
 ) -> Result<(), AllocError>
     ensures { OnOk result (out.new ≡ and_kept out.old
-        (kept_by (span_at service.now (Spans scope.resource scope.scope)) 1 (map value_view items.now))) }
+        (kept_by (span_at shown.now (Spans scope.resource scope.scope)) 1 (map value_view items.now))) }
 {
     for (place, item) in items.iter().enumerate() {
         let list = ItemList::Spans(scope.resource, scope.scope);
         let number = place as u64 + 1;
-        push_span(alloc, out, service, ItemPlace { list, number }, item)?;
+        push_span(alloc, out, shown, ItemPlace { list, number }, item)?;
     }
     Ok(())
 }
@@ -120,15 +120,15 @@ fn scope_items<'v, 'a>(scope: &'v Value<'a>) -> Result<&'v [Value<'a>], ReadErro
 fn push_scope(
     alloc: Global,
     out: &mut ReadSpans,
-    service: &str,
+    shown: &ShownResource,
     place: ScopePlace,
     scope: &Value,
 ) -> Result<(), AllocError>
     ensures { OnOk result (out.new
-        ≡ and_kept out.old (scope_spans_in service.now place.resource place.scope (value_view scope.now))) }
+        ≡ and_kept out.old (scope_spans_in shown.now place.resource place.scope (value_view scope.now))) }
 {
     match scope_items(scope) {
-        Ok(items) => push_spans(alloc, out, service, place, items),
+        Ok(items) => push_spans(alloc, out, shown, place, items),
         Err(ReadError::Fault(fault)) => {
             let list = ItemList::ScopeSpans(place.resource);
             let number = place.scope;
@@ -142,16 +142,16 @@ fn push_scope(
 fn push_scopes(
     alloc: Global,
     out: &mut ReadSpans,
-    service: &str,
+    shown: &ShownResource,
     resource: u64,
     items: &[Value],
 ) -> Result<(), AllocError>
     ensures { OnOk result (out.new
-        ≡ and_kept out.old (kept_by (scope_spans_in service.now resource) 1 (map value_view items.now))) }
+        ≡ and_kept out.old (kept_by (scope_spans_in shown.now resource) 1 (map value_view items.now))) }
 {
     for (place, item) in items.iter().enumerate() {
         let scope = place as u64 + 1;
-        push_scope(alloc, out, service, ScopePlace { resource, scope }, item)?;
+        push_scope(alloc, out, shown, ScopePlace { resource, scope }, item)?;
     }
     Ok(())
 }
@@ -184,19 +184,20 @@ fn resource_items<'v, 'a>(resource_spans: &'v Value<'a>) -> Result<&'v [Value<'a
     list(resource_spans, "scopeSpans", Fault::ScopeSpansType)
 }
 
-/// Appends the spans of scopes, under the first of these names of the service.
-fn push_named(
+/// Appends the spans of scopes, of a resource of these attributes.
+fn push_of(
     alloc: Global,
     out: &mut ReadSpans,
-    names: &ReadNames,
+    read: &ReadPairs,
     resource: u64,
     items: &[Value],
 ) -> Result<(), AllocError>
     ensures { OnOk result (out.new
-        ≡ and_kept out.old (scopes_in names.now resource (map value_view items.now))) }
+        ≡ and_kept out.old (scopes_in read.now resource (map value_view items.now))) }
 {
-    out.left_out.extend_from_slice(&names.left_out)?;
-    push_scopes(alloc, out, names.first(), resource, items)
+    let shown = read.shown(alloc)?;
+    out.left_out.extend_from_slice(&read.left_out)?;
+    push_scopes(alloc, out, &shown, resource, items)
 }
 
 /// Appends the spans of a resource, the one of this number.
@@ -212,8 +213,8 @@ fn push_resource(
 {
     match resource_items(resource_spans) {
         Ok(items) => {
-            let names = service(alloc, number, resource_spans)?;
-            push_named(alloc, out, &names, number, items)
+            let read = pairs(alloc, number, resource_spans)?;
+            push_of(alloc, out, &read, number, items)
         }
         Err(ReadError::Fault(fault)) => {
             let list = ItemList::ResourceSpans;

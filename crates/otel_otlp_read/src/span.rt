@@ -8,17 +8,17 @@ use crate::attributes::{ReadAttributes, attributes};
 use crate::event::{ReadEvents, events};
 use crate::fault::{Fault, ReadError};
 use crate::kind::kind;
-use crate::left_out::LeftOut;
+use crate::left_out::{ItemList, LeftOut};
 use crate::link::{ReadLinks, links};
 use crate::member::{object, text};
 use crate::number::{moment, parent_span_id, span_id, trace_id};
 use crate::status::status;
 use json::Value;
-use otel_shown::ShownSpan;
+use otel_shown::{ShownResource, ShownSpan};
 use std::alloc::Global;
 use std::marker::Model;
 
-/// A span as it is shown, and which of its attributes, events and links do not read.
+/// A span as it is shown, and what of its attributes, events and links does not read.
 #[derive(Drop)]
 pub(crate) struct ReadSpan {
     pub(crate) span: ShownSpan,
@@ -33,10 +33,14 @@ impl Model for ReadSpan {
     ghost view = { λ read. record { span = read.span; left_out = read.left_out.items } };
 }
 
-/// A span of a service.
+/// A span of a resource.
 #[tactic(auto, unfolding(crate::specs::SpanParts::span_in, crate::specs::Members::own_name))]
-pub(crate) fn span(alloc: Global, service: &str, span: &Value) -> Result<ReadSpan, ReadError>
-    ensures { Gives (λ span. span) result (span_in service.now (value_view span.now)) }
+pub(crate) fn span(
+    alloc: Global,
+    resource: &ShownResource,
+    span: &Value,
+) -> Result<ReadSpan, ReadError>
+    ensures { Gives (λ span. span) result (span_in resource.now (value_view span.now)) }
 {
     object(span, Fault::SpanType)?;
     let trace_id = trace_id(span)?;
@@ -50,7 +54,7 @@ pub(crate) fn span(alloc: Global, service: &str, span: &Value) -> Result<ReadSpa
     let ReadAttributes {
         lines,
         mut left_out,
-    } = attributes(alloc, span_id, span)?;
+    } = attributes(alloc, ItemList::SpanAttributes(span_id), span)?;
     let ReadEvents {
         events,
         left_out: others,
@@ -62,13 +66,13 @@ pub(crate) fn span(alloc: Global, service: &str, span: &Value) -> Result<ReadSpa
     } = links(alloc, span_id, span)?;
     left_out.extend_from_slice(&others)?;
     let name = String::from_str(alloc, name)?;
-    let service = String::from_str(alloc, service)?;
+    let resource = resource.clone()?;
     let span = ShownSpan {
         trace_id,
         span_id,
         parent_span_id,
         name,
-        service,
+        resource,
         kind,
         start_time,
         end_time,

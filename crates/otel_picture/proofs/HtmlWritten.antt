@@ -1,7 +1,8 @@
 -- The data of the HTML form are written as the value that they are, and nest no deeper than a reader reads.
 use Rattle.std.proofs.Common.{◌≡◌, ◌≤◌, ◌∙◌, ℕ, List, [], ◌∷◌, ◌++◌, Some, ap, ap₂, append-nil, append_assoc, arith}
-use Rattle.std.proofs.Common.{◌-◌, codes, decimal, flat_map, length, option_and_then, refl, sym}
-use Rattle.json.specs.Json.{Json, Members, document, if_last, max_depth, no_members, value}
+use Rattle.std.proofs.Common.{◌-◌, Bool, true, false, codes, cond, decimal, flat_map, length, option_and_then, refl, sym}
+use Rattle.std.specs.Str.{bytes_eq}
+use Rattle.json.specs.Json.{Json, Members, array, document, if_last, max_depth, member, no_members, value}
 use Rattle.json.specs.Lex.{tokens}
 use Rattle.json.specs.Token.{Token}
 use Rattle.json.specs.Token as token
@@ -10,10 +11,11 @@ use Rattle.json.proofs.Printed.Trees.{value-json_tokens}
 use Rattle.opentelemetry.specs.Hex.{hex_text}
 use Rattle.otel_shown.specs.Shown.{PlainShownEvent, PlainShownLink, PlainShownSpan}
 use Rattle.otel_picture.specs.Drawn.{PlainTraces}
-use Rattle.otel_picture.specs.HtmlJson.{event_json, html_json, items_of, link_json, list_then, number_then}
-use Rattle.otel_picture.specs.HtmlJson.{recorded_json, root_then, row_json, text_then, trace_json}
+use Rattle.otel_picture.specs.HtmlJson.{event_json, html_json, items_of, link_json, number_then}
+use Rattle.otel_picture.specs.HtmlJson.{recorded_json, resource_json, root_then, row_json, rows_json, text_then, trace_json}
 use Rattle.otel_picture.specs.HtmlRows.{event_tokens, html_tokens, link_tokens, list_member, name_members}
-use Rattle.otel_picture.specs.HtmlRows.{place_members, recorded_members, row_tokens, span_time_members}
+use Rattle.otel_picture.specs.HtmlRows.{place_members, recorded_members, resource_members, row_tokens, rows_member, rows_tokens}
+use Rattle.otel_picture.specs.HtmlRows.{span_time_members}
 use Rattle.otel_picture.specs.HtmlRows.{status_members, trace_tokens}
 use Rattle.otel_picture.specs.HtmlTexts.{html_data}
 use Rattle.otel_picture.specs.Layouts.{svg_layout}
@@ -38,23 +40,44 @@ event_written event = refl
 link_written : (link : PlainShownLink) → json_tokens (link_json link) ≡ link_tokens link
 link_written link = refl
 
-recorded_written : (span : PlainShownSpan)
-    → members_tokens (recorded_json span) ≡ recorded_members span ++ token.end_object ∷ []
-recorded_written span =
+-- the attributes of a resource, if they are written
+resource_by : (same : Bool) (attributes : List ℕ)
+    → members_tokens (cond same no_members (text_then (codes "resource") attributes no_members))
+    ≡ cond same [] (text_member (codes "resource") attributes) ++ ended
+resource_by true attributes = refl
+resource_by false attributes = refl
+
+recorded_written : (before : List ℕ) (span : PlainShownSpan)
+    → members_tokens (recorded_json before span) ≡ (recorded_members span ++ resource_members before span) ++ ended
+recorded_written before span =
     let events : List Token = list_member (codes "events") event_tokens span.events in
     let links : List Token = list_member (codes "links") link_tokens span.links in
+    let resource : List Token = resource_members before span ++ ended in
     ap₂ (λ (a b : List Token). text_member (codes "attributes") span.attributes
     ++ token.key (codes "events") ∷ token.begin_array ∷ (a ++ token.key (codes "links") ∷ token.begin_array
-    ∷ (b ++ ended))) (items_written event_json event_tokens event_written span.events)
+    ∷ (b ++ members_tokens (resource_json before span))))
+    (items_written event_json event_tokens event_written span.events)
     (items_written link_json link_tokens link_written span.links)
+    ∙ ap (λ (l : List Token). text_member (codes "attributes") span.attributes ++ (events ++ (links ++ l)))
+    (resource_by (bytes_eq span.resource before) span.resource)
     ∙ ap (λ (l : List Token). text_member (codes "attributes") span.attributes ++ l)
-    (sym (append_assoc events links ended))
+    (sym (append_assoc events links resource))
+    ∙ sym (append_assoc (recorded_members span) (resource_members before span) ended)
 
-row_written : (sheet : PlainSheet) (row : Row) → json_tokens (row_json sheet row) ≡ row_tokens sheet row
-row_written sheet row =
+row_written : (sheet : PlainSheet) (before : List ℕ) (row : Row)
+    → json_tokens (row_json sheet before row) ≡ row_tokens sheet before row
+row_written sheet before row =
     let span = row_span sheet row in
     ap (λ (l : List Token). token.begin_object ∷ (place_members row.level span ++ (name_members span
-    ++ (span_time_members span ++ (status_members span.status ++ l))))) (recorded_written span)
+    ++ (span_time_members span ++ (status_members span.status ++ l))))) (recorded_written before span)
+
+rows_written : (sheet : PlainSheet) (before : List ℕ) (rows : List Row)
+    → items_tokens (rows_json sheet before rows) ≡ rows_tokens sheet before rows ++ token.end_array ∷ []
+rows_written sheet before [] = refl
+rows_written sheet before (row ∷ rows) =
+    let here = (row_span sheet row).resource in
+    ap₂ (λ (a b : List Token). a ++ b) (row_written sheet before row) (rows_written sheet here rows)
+    ∙ sym (append_assoc (row_tokens sheet before row) (rows_tokens sheet here rows) (token.end_array ∷ []))
 
 root_written : (sheet : PlainSheet) (rows : List Row) (rest : Members)
     → members_tokens (root_then sheet rows rest) ≡ root_members sheet rows ++ members_tokens rest
@@ -67,18 +90,18 @@ after_root sheet =
     text_then (codes "startTimeUnixNano") (decimal sheet.first)
     (number_then (codes "durationNano") (sheet.last - sheet.first)
     (number_then (codes "spans") (length sheet.trace.marks) (number_then (codes "errors") (errors_in sheet)
-    (list_then (codes "rows") (row_json sheet) sheet.trace.rows no_members))))
+    (member (codes "rows") (array (rows_json sheet [] sheet.trace.rows)) no_members))))
 
 trace_written : (sheet : PlainSheet) → json_tokens (trace_json sheet) ≡ trace_tokens sheet
 trace_written sheet =
     let rows = sheet.trace.rows in
     let times : List Token = time_members sheet ++ count_members sheet in
-    let listed : List Token = list_member (codes "rows") (row_tokens sheet) rows ++ ended in
+    let listed : List Token = rows_member sheet rows ++ ended in
     ap (λ (l : List Token). token.begin_object
     ∷ (text_member (codes "traceId") (hex_text 32 sheet.trace.trace_id) ++ l))
     (root_written sheet rows (after_root sheet)
     ∙ ap (λ (l : List Token). root_members sheet rows ++ (times ++ token.key (codes "rows") ∷ token.begin_array
-    ∷ (l ++ ended))) (items_written (row_json sheet) (row_tokens sheet) (row_written sheet) rows)
+    ∷ (l ++ ended))) (rows_written sheet [] rows)
     ∙ sym (append_assoc (root_members sheet rows) times listed))
 
 pub data_written : (drawn : PlainTraces) → json_tokens (html_json drawn) ≡ html_tokens drawn.spans drawn.traces
@@ -100,14 +123,25 @@ event_within event = omega arith
 link_within : (link : PlainShownLink) → depth (link_json link) ≤ 1
 link_within link = omega arith
 
-row_within : (sheet : PlainSheet) (row : Row) → depth (row_json sheet row) ≤ 3
-row_within sheet row =
+resource_within : (same : Bool) (attributes : List ℕ)
+    → members_depth (cond same no_members (text_then (codes "resource") attributes no_members)) ≤ 0
+resource_within true attributes = omega arith
+resource_within false attributes = omega arith
+
+row_within : (sheet : PlainSheet) (before : List ℕ) (row : Row) → depth (row_json sheet before row) ≤ 3
+row_within sheet before row =
     let span = row_span sheet row in
     omega (
       arith,
       items_within event_json span.events 1 event_within,
       items_within link_json span.links 1 link_within,
+      resource_within (bytes_eq span.resource before) span.resource,
     )
+
+rows_within : (sheet : PlainSheet) (before : List ℕ) (rows : List Row) → items_depth (rows_json sheet before rows) ≤ 3
+rows_within sheet before [] = omega arith
+rows_within sheet before (row ∷ rows) =
+    omega (arith, row_within sheet before row, rows_within sheet (row_span sheet row).resource rows)
 
 root_within : (sheet : PlainSheet) (rows : List Row) (rest : Members)
     → members_depth (root_then sheet rows rest) ≤ members_depth rest
@@ -119,7 +153,7 @@ trace_within sheet =
     omega (
       arith,
       root_within sheet sheet.trace.rows (after_root sheet),
-      items_within (row_json sheet) sheet.trace.rows 3 (row_within sheet),
+      rows_within sheet [] sheet.trace.rows,
     )
 
 data_within : (drawn : PlainTraces) → depth (html_json drawn) ≤ max_depth

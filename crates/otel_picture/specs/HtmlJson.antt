@@ -1,5 +1,6 @@
 -- The data of the HTML form as a JSON value: an array of traces, each with the members of its summary and its rows.
-use Rattle.std.specs.Prelude.{ℕ, ◌-◌, List, [], ◌∷◌, codes, decimal, length}
+use Rattle.std.specs.Prelude.{ℕ, ◌-◌, List, [], ◌∷◌, codes, decimal, if◌then◌else◌, length}
+use Rattle.std.specs.Str.{bytes_eq}
 use Rattle.json.specs.Json.{Items, Json, Members, array, item, member, no_items, no_members, object}
 use Rattle.json.specs.Json as json
 use Rattle.opentelemetry.specs.Hex.{hex_text}
@@ -37,20 +38,26 @@ link_json link =
     (text_then (codes "spanId") (hex_text 16 link.span_id)
     (text_then (codes "attributes") link.attributes no_members)))
 
--- what was recorded of a span: its attributes, which are one text, its events and its links
-abbrev pub recorded_json : PlainShownSpan → Members
-recorded_json span =
+-- the attributes of a span's resource, which are one text, where they are not those before it
+abbrev pub resource_json : (before : List ℕ) → PlainShownSpan → Members
+resource_json before span =
+    if bytes_eq span.resource before then no_members else text_then (codes "resource") span.resource no_members
+
+-- what was recorded of a span: its attributes, which are one text, its events and its links; and its resource
+abbrev pub recorded_json : (before : List ℕ) → PlainShownSpan → Members
+recorded_json before span =
     text_then (codes "attributes") span.attributes (list_then (codes "events") event_json span.events
-    (list_then (codes "links") link_json span.links no_members))
+    (list_then (codes "links") link_json span.links (resource_json before span)))
 
 -- how it went, and what went wrong
 abbrev pub status_then : PlainStatus → Members → Members
 status_then status rest =
     text_then (codes "status") (status_word status) (text_then (codes "description") (description_of status) rest)
 
--- a row: how many levels it stands under a root, and its span. Moments are in nanoseconds since 1970
-abbrev pub row_json : PlainSheet → Row → Json
-row_json sheet row =
+-- a row, after one whose resource has these attributes: how many levels it stands under a root, and its span. Moments
+-- are in nanoseconds since 1970
+abbrev pub row_json : PlainSheet → (before : List ℕ) → Row → Json
+row_json sheet before row =
     object (number_then (codes "level") row.level
     (text_then (codes "spanId") (hex_text 16 (row_span sheet row).span_id)
     (text_then (codes "parentSpanId") (parent_text (row_span sheet row).parent_span_id)
@@ -58,7 +65,13 @@ row_json sheet row =
     (text_then (codes "kind") (kind_word (row_span sheet row).kind)
     (text_then (codes "startTimeUnixNano") (decimal (row_span sheet row).start_time)
     (text_then (codes "endTimeUnixNano") (decimal (row_span sheet row).end_time)
-    (status_then (row_span sheet row).status (recorded_json (row_span sheet row)))))))))))
+    (status_then (row_span sheet row).status (recorded_json before (row_span sheet row)))))))))))
+
+-- rows, the first of them after such a row
+abbrev pub rows_json : PlainSheet → (before : List ℕ) → List Row → Items
+rows_json sheet before [] = no_items
+rows_json sheet before (row ∷ rows) =
+    item (row_json sheet before row) (rows_json sheet (row_span sheet row).resource rows)
 
 -- the service and the name of the span of the first row, before others
 abbrev pub root_then : PlainSheet → List Row → Members → Members
@@ -73,7 +86,7 @@ trace_json sheet =
     (text_then (codes "startTimeUnixNano") (decimal sheet.first)
     (number_then (codes "durationNano") (sheet.last - sheet.first)
     (number_then (codes "spans") (length sheet.trace.marks) (number_then (codes "errors") (errors_in sheet)
-    (list_then (codes "rows") (row_json sheet) sheet.trace.rows no_members)))))))
+    (member (codes "rows") (array (rows_json sheet [] sheet.trace.rows)) no_members)))))))
 
 -- all traces
 abbrev pub html_json : PlainTraces → Json

@@ -2,6 +2,7 @@
 -- them.
 use Rattle.std.specs.Prelude.{ℕ, ◌==◌, List, [], ◌∷◌, ◌++◌, codes, decimal, if◌then◌else◌}
 use Rattle.std.specs.List.{flat_map}
+use Rattle.std.specs.Str.{bytes_eq}
 use Rattle.json.specs.Token.{Token}
 use Rattle.json.specs.Token as token
 use Rattle.opentelemetry.specs.Hex.{hex_text}
@@ -82,21 +83,36 @@ recorded_members span =
     text_member (codes "attributes") span.attributes
     ++ (list_member (codes "events") event_tokens span.events ++ list_member (codes "links") link_tokens span.links)
 
-abbrev pub row_members : (level : ℕ) → PlainShownSpan → List Token
-row_members level span =
-    place_members level span ++ (name_members span ++ (span_time_members span ++ (status_members span.status
-    ++ recorded_members span)))
+-- the attributes of its resource, which are one text, where they are not those before it
+abbrev pub resource_members : (before : List ℕ) → PlainShownSpan → List Token
+resource_members before span =
+    if bytes_eq span.resource before then [] else text_member (codes "resource") span.resource
 
--- a row as an object
-abbrev pub row_tokens : PlainSheet → Row → List Token
-row_tokens sheet row =
-    token.begin_object ∷ (row_members row.level (row_span sheet row) ++ token.end_object ∷ [])
+abbrev pub row_members : (before : List ℕ) → (level : ℕ) → PlainShownSpan → List Token
+row_members before level span =
+    place_members level span ++ (name_members span ++ (span_time_members span ++ (status_members span.status
+    ++ (recorded_members span ++ resource_members before span))))
+
+-- a row as an object, after a row whose resource has these attributes
+abbrev pub row_tokens : PlainSheet → (before : List ℕ) → Row → List Token
+row_tokens sheet before row =
+    token.begin_object ∷ (row_members before row.level (row_span sheet row) ++ token.end_object ∷ [])
+
+-- rows, the first of them after such a row
+abbrev pub rows_tokens : PlainSheet → (before : List ℕ) → List Row → List Token
+rows_tokens sheet before [] = []
+rows_tokens sheet before (row ∷ rows) =
+    row_tokens sheet before row ++ rows_tokens sheet (row_span sheet row).resource rows
+
+-- all rows: no attributes stand before the first
+abbrev pub rows_member : PlainSheet → List Row → List Token
+rows_member sheet rows =
+    token.key (codes "rows") ∷ token.begin_array ∷ (rows_tokens sheet [] rows ++ token.end_array ∷ [])
 
 -- a trace as an object: the members of its summary, and its rows
 abbrev pub trace_tokens : PlainSheet → List Token
 trace_tokens sheet =
-    token.begin_object ∷ (summary_members sheet ++ (list_member (codes "rows") (row_tokens sheet) sheet.trace.rows
-    ++ token.end_object ∷ []))
+    token.begin_object ∷ (summary_members sheet ++ (rows_member sheet sheet.trace.rows ++ token.end_object ∷ []))
 
 abbrev pub traces_tokens : List PlainShownSpan → List PlainTrace → List Token
 traces_tokens spans traces = flat_map (λ trace. trace_tokens (sheet_of svg_layout spans trace)) traces

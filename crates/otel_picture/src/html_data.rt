@@ -1,6 +1,6 @@
 //! The data of the HTML form: a JSON object a trace, which is its summary and its rows.
 
-ghost use Rattle.std.specs.Prelude.{◌≡◌, ◌<◌, ◌++◌, ◌∷◌, All, OnOk, codes, flat_map, length, map};
+ghost use Rattle.std.specs.Prelude.{◌≡◌, ◌<◌, ◌++◌, ◌∷◌, [], All, IfOk, OnOk, codes, flat_map, length, map};
 ghost use Rattle.json.specs.Token as token;
 ghost use Rattle.opentelemetry.specs.Hex.{hex_text};
 ghost use Rattle.opentelemetry.specs.PlainValues.{plain_status};
@@ -14,14 +14,18 @@ ghost use Rattle.otel_picture.specs.HtmlRows.{
   parent_text,
   place_members,
   recorded_members,
+  resource_members,
   row_members,
   row_tokens,
+  rows_member,
+  rows_tokens,
   span_time_members,
   status_members,
   status_word,
   trace_tokens,
   traces_tokens,
 };
+ghost use Rattle.otel_picture.specs.PlainSheets.{row_span};
 ghost use Rattle.otel_picture.specs.Sheets.{plain_sheet};
 ghost use Rattle.otel_picture.specs.Summaries.{text_member};
 ghost use Rattle.otel_picture.specs.Traces.{AllHaveSpans, plain_trace};
@@ -120,7 +124,7 @@ fn push_name(out: &mut Writer, span: &ShownSpan) -> Result<(), AllocError>
     ensures written { OnOk result (out.new.tokens ≡ out.old.tokens ++ name_members span.now) }
 {
     push_text(out, "name", span.name.as_str())?;
-    push_text(out, "service", span.service.as_str())?;
+    push_text(out, "service", span.resource.service())?;
     push_text(out, "kind", kind_word(span.kind))
 }
 
@@ -214,49 +218,78 @@ fn push_recorded(alloc: Global, out: &mut Writer, span: &ShownSpan) -> Result<()
     push_links(alloc, out, &span.links)
 }
 
+/// The attributes of its resource, where they are not those before it.
+fn push_resource(out: &mut Writer, before: &str, span: &ShownSpan) -> Result<(), AllocError>
+    ensures before { out.new.before ≡ out.old.before }
+    ensures written { OnOk result
+        (out.new.tokens ≡ out.old.tokens ++ resource_members before.now span.now) }
+{
+    let attributes = span.resource.attributes();
+    if attributes == before {
+        return Ok(());
+    }
+    push_text(out, "resource", attributes)
+}
+
 /// The members of the object of a row.
 fn push_row_members(
     alloc: Global,
     out: &mut Writer,
+    before: &str,
     level: usize,
     span: &ShownSpan,
 ) -> Result<(), AllocError>
     ensures before { out.new.before ≡ out.old.before }
-    ensures written { OnOk result (out.new.tokens ≡ out.old.tokens ++ row_members level span.now) }
+    ensures written { OnOk result (out.new.tokens ≡ out.old.tokens ++ row_members before.now level span.now) }
 {
     push_place(alloc, out, level, span)?;
     push_name(out, span)?;
     push_span_time(out, span)?;
     push_status(out, &span.status)?;
-    push_recorded(alloc, out, span)
+    push_recorded(alloc, out, span)?;
+    push_resource(out, before, span)
 }
 
 impl Sheet<'_> {
-    fn push_json_row(&self, alloc: Global, out: &mut Writer, row: Row) -> Result<(), AllocError>
+    /// The object of a row, and the attributes of its span's resource, by those of the row before it.
+    fn push_json_row(
+        &self,
+        alloc: Global,
+        out: &mut Writer,
+        before: &str,
+        row: Row,
+    ) -> Result<&str, AllocError>
         requires { row.span < length self.now.trace.now.family.marks.items }
         ensures before { out.new.before ≡ out.old.before }
-        ensures written { OnOk result (out.new.tokens ≡ out.old.tokens ++ row_tokens (plain_sheet self.now) row) }
+        ensures written { OnOk result (out.new.tokens
+            ≡ out.old.tokens ++ row_tokens (plain_sheet self.now) before.now row) }
+        ensures attributes { IfOk result (λ here. here.now ≡ (row_span (plain_sheet self.now) row).resource) }
     {
+        let span = self.span_of(row);
         out.begin_object()?;
-        push_row_members(alloc, out, row.level, self.span_of(row))?;
-        out.end_object()
+        push_row_members(alloc, out, before, row.level, span)?;
+        out.end_object()?;
+        Ok(span.resource.attributes())
     }
 
+    /// The objects of the rows. A row has the attributes of its resource where they are not those of the row before it.
     fn push_json_row_items(&self, alloc: Global, out: &mut Writer) -> Result<(), AllocError>
         ensures before { out.new.before ≡ out.old.before }
         ensures written { OnOk result (out.new.tokens
-            ≡ out.old.tokens ++ flat_map (row_tokens (plain_sheet self.now)) self.now.trace.now.rows.items) }
+            ≡ out.old.tokens ++ rows_tokens (plain_sheet self.now) [] self.now.trace.now.rows.items) }
     {
+        let mut before = "";
         for row in &self.trace.rows {
-            self.push_json_row(alloc, out, *row)?;
+            let own = self.push_json_row(alloc, out, before, *row)?;
+            before = own;
         }
         Ok(())
     }
 
     fn push_json_rows(&self, alloc: Global, out: &mut Writer) -> Result<(), AllocError>
         ensures before { out.new.before ≡ out.old.before }
-        ensures written { OnOk result (out.new.tokens ≡ out.old.tokens
-            ++ list_member (codes "rows") (row_tokens (plain_sheet self.now)) self.now.trace.now.rows.items) }
+        ensures written { OnOk result (out.new.tokens
+            ≡ out.old.tokens ++ rows_member (plain_sheet self.now) self.now.trace.now.rows.items) }
     {
         out.key("rows")?;
         out.begin_array()?;

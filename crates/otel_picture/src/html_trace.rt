@@ -206,11 +206,15 @@ const describe = () => {
 
 // ---- from one to the other
 
-// The moments of a trace, from its first on.
+// The moments of a trace, from its first on, where a span without a start is taken to start when it ends; and the
+// resource of a row that does not say it, which is that before it.
 const prepare = () => {
   trace.first = BigInt(trace.startTimeUnixNano);
   for (const row of trace.rows) {
-    const start = BigInt(row.startTimeUnixNano);
+  if (row.resource) parts.push(...block('Resource', texts(row.resource)));
+    row.resource ??= resource;
+    resource = row.resource;
+    const start = BigInt(row.startTimeUnixNano) || BigInt(row.endTimeUnixNano);
     row.from = Number(start - trace.first);
     row.length = Math.max(0, Number(BigInt(row.endTimeUnixNano) - start));
   }
@@ -219,6 +223,7 @@ const prepare = () => {
 const mark = () => {
   const words = asked();
   const found = words.length ? trace.rows.flatMap((row, place) => (has(lowered(row), words) ? [place] : [])) : [];
+  let resource = '';
   matches = new Set(found);
   at('found').textContent = words.length ? found.length + ' found' : trace.spans + ' spans';
   spans.paint();

@@ -79,7 +79,7 @@ pub(crate) fn label_of(
     push_shown(&mut label, span.name.as_str())?;
     if is_mixed {
         label.push_str(" @")?;
-        push_shown(&mut label, span.service.as_str())?;
+        push_shown(&mut label, span.resource.service())?;
     }
     label.push_str(kind_text(span.kind))?;
     Ok(label)

@@ -42,7 +42,7 @@ pub(crate) fn first_service<'a>(spans: &'a [ShownSpan], marks: &[Mark]) -> &'a s
     match marks.first() {
         Some(mark) => {
             let span = &spans[mark.place];
-            span.service.as_str()
+            span.resource.service()
         }
         None => "",
     }
@@ -56,7 +56,7 @@ fn are_mixed(spans: &[ShownSpan], marks: &[Mark]) -> bool
     let first = first_service(spans, marks);
     for mark in marks {
         let span = &spans[mark.place];
-        if span.service.as_str() != first {
+        if span.resource.service() != first {
             return true;
         }
     }

@@ -61,7 +61,7 @@ impl Sheet<'_> {
         match self.trace.rows.first() {
             Some(row) => {
                 let span = self.span_of(*row);
-                push_text(out, "service", span.service.as_str())?;
+                push_text(out, "service", span.resource.service())?;
                 push_text(out, "name", span.name.as_str())
             }
             None => Ok(()),

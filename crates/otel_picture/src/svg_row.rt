@@ -58,7 +58,7 @@ fn colour_of(service: &str) -> u64
 fn push_class(out: &mut String, span: &ShownSpan) -> Result<(), AllocError>
     ensures { OnOk result (TextGrows out.old (class_text span.now) out.new) }
 {
-    let colour = colour_of(span.service.as_str());
+    let colour = colour_of(span.resource.service());
     write!(out, "s{colour}")?;
     if is_error(&span.status) {
         return out.push_str(" error");
@@ -98,7 +98,8 @@ fn push_whose(out: &mut String, span: &ShownSpan) -> Result<(), AllocError>
 {
     out.push_str(span.name.as_str())?;
     out.push_str(kind_text(span.kind))?;
-    if span.service.is_empty() {
+    let service = span.resource.service();
+    if service.is_empty() {
         return Ok(());
     }
     out.push_str("\n@")?;

@@ -1,5 +1,5 @@
 -- What contracts see of a span as a picture shows it, and which one shows an exported span.
-use Rattle.std.specs.Prelude.{ℕ, List, ◌∷◌, ◌++◌, map}
+use Rattle.std.specs.Prelude.{ℕ, List, [], ◌∷◌, ◌++◌, map}
 use Rattle.std.specs.List.{flat_map}
 use Rattle.opentelemetry.specs.Plain.{PlainEvent, PlainKeyValue, PlainLink, PlainStatus}
 use Rattle.opentelemetry.specs.ValueText.{value_text}
@@ -18,13 +18,24 @@ pub record PlainShownLink : Type 0 where
   pub span_id : ℕ
   pub attributes : List ℕ
 
--- what a picture shows of a span; its attributes are one text, its parent is zero where it has none
+-- who made spans: the name of a service, empty where nobody says it, and the attributes of its resource as one text
+pub record PlainShownResource : Type 0 where
+  pub service : List ℕ
+  pub attributes : List ℕ
+
+-- nobody says who made them
+abbrev pub no_resource : PlainShownResource
+no_resource = record { service = []; attributes = [] }
+
+-- what a picture shows of a span; its attributes are one text, and those of its resource, its parent is zero where it
+-- has none
 pub record PlainShownSpan : Type 0 where
   pub trace_id : ℕ
   pub span_id : ℕ
   pub parent_span_id : ℕ
   pub name : List ℕ
   pub service : List ℕ
+  pub resource : List ℕ
   pub kind : SpanKind
   pub start_time : ℕ
   pub end_time : ℕ
@@ -61,14 +72,15 @@ shown_link link = record {
   attributes = attribute_lines link.attributes;
 }
 
--- an exported span of a service
-abbrev pub shown_span : List ℕ → PlainSpanData → PlainShownSpan
-shown_span service span = record {
+-- an exported span of a resource
+abbrev pub shown_span : PlainShownResource → PlainSpanData → PlainShownSpan
+shown_span resource span = record {
   trace_id = span.span_context.trace_id;
   span_id = span.span_context.span_id;
   parent_span_id = span.parent_span_id;
   name = span.name;
-  service = service;
+  service = resource.service;
+  resource = resource.attributes;
   kind = span.span_kind;
   start_time = span.start_time;
   end_time = span.end_time;

@@ -5,8 +5,10 @@
 
 mod shown_event;
 mod shown_link;
+mod shown_resource;
 mod shown_span;
 
 pub use shown_event::ShownEvent;
 pub use shown_link::ShownLink;
+pub use shown_resource::ShownResource;
 pub use shown_span::ShownSpan;

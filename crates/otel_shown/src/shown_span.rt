@@ -4,7 +4,7 @@ ghost use Rattle.std.specs.Prelude.{◌≡◌, IfOk, OnOk, map, string_bytes};
 ghost use Rattle.opentelemetry.specs.Text.{TextGrows};
 ghost use Rattle.otel_shown.specs.Shown.{attribute_line, attribute_lines, shown_event, shown_link, shown_span};
 
-use crate::{ShownEvent, ShownLink};
+use crate::{ShownEvent, ShownLink, ShownResource};
 use opentelemetry::trace::{Event, Link, SpanKind, Status};
 use opentelemetry::{KeyValue, Moment, SpanId, TraceId, Value};
 use otel_export::trace::{SpanData, SpanEvents, SpanLinks};
@@ -20,8 +20,8 @@ pub struct ShownSpan {
     /// Zero where the span has no parent.
     pub parent_span_id: SpanId,
     pub name: String,
-    /// The name of the service that made the span, empty where nobody says it.
-    pub service: String,
+    /// Who made the span; spans of one resource share its texts.
+    pub resource: ShownResource,
     pub kind: SpanKind,
     pub start_time: Moment,
     pub end_time: Moment,
@@ -35,7 +35,7 @@ pub struct ShownSpan {
 }
 
 // A summary of a file keeps all of its spans.
-const _: () = prove!(std::mem::size_of::<ShownSpan>() <= 216);
+const _: () = prove!(std::mem::size_of::<ShownSpan>() <= 200);
 
 impl Model for ShownSpan {
     ghost use Rattle.std.specs.Prelude.{string_bytes};
@@ -49,7 +49,8 @@ impl Model for ShownSpan {
       span_id = a.span_id;
       parent_span_id = a.parent_span_id;
       name = string_bytes a.name;
-      service = string_bytes a.service;
+      service = a.resource.service;
+      resource = a.resource.attributes;
       kind = a.kind;
       start_time = a.start_time.0;
       end_time = a.end_time.0;
@@ -61,9 +62,13 @@ impl Model for ShownSpan {
 }
 
 impl ShownSpan {
-    /// An exported span of a service. Its name and its description move; its attributes become one text.
-    pub fn of(alloc: Global, service: String, span: SpanData) -> Result<ShownSpan, AllocError>
-        ensures { IfOk result (λ shown. shown ≡ shown_span (string_bytes service) span) }
+    /// An exported span of a resource. Its name and its description move; its attributes become one text.
+    pub fn of(
+        alloc: Global,
+        resource: ShownResource,
+        span: SpanData,
+    ) -> Result<ShownSpan, AllocError>
+        ensures { IfOk result (λ shown. shown ≡ shown_span resource span) }
     {
         let attributes = attribute_lines(alloc, span.attributes.as_slice())?;
         let trace_id = span.span_context.trace_id();
@@ -75,7 +80,7 @@ impl ShownSpan {
             span_id,
             parent_span_id: span.parent_span_id,
             name: span.name,
-            service,
+            resource,
             kind: span.span_kind,
             start_time: span.start_time,
             end_time: span.end_time,

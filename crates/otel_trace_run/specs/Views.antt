@@ -61,8 +61,14 @@ item_text (lists.SpanAttributes span_id) number =
     codes "attribute " ++ (decimal number ++ (codes " of span " ++ hex_text 16 span_id))
 item_text (lists.SpanEvents span_id) number =
     codes "event " ++ (decimal number ++ (codes " of span " ++ hex_text 16 span_id))
+item_text (lists.EventAttributes span_id event) number =
+    codes "attribute " ++ (decimal number ++ (codes " of event " ++ (decimal event
+    ++ (codes " of span " ++ hex_text 16 span_id))))
 item_text (lists.SpanLinks span_id) number =
     codes "link " ++ (decimal number ++ (codes " of span " ++ hex_text 16 span_id))
+item_text (lists.LinkAttributes span_id link) number =
+    codes "attribute " ++ (decimal number ++ (codes " of link " ++ (decimal link
+    ++ (codes " of span " ++ hex_text 16 span_id))))
 
 -- which item was left out, if it is one
 abbrev pub place_text : Option ItemPlace → List ℕ

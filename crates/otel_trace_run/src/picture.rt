@@ -3,7 +3,7 @@
 
 ghost use Rattle.std.specs.Prelude.{◌≡◌, ◌++◌, [], IfOk, IfSome, OnOk, List, ℕ, map, true};
 ghost use Rattle.otel_export.specs.PlainSpanData.{PlainSpanData, spans_in};
-ghost use Rattle.otel_shown.specs.Shown.{shown_span};
+ghost use Rattle.otel_shown.specs.Shown.{no_resource, shown_span};
 ghost use Rattle.otel_trace_lines.specs.Commands.{plain_commands};
 ghost use Rattle.otel_picture.specs.Drawn.{plain_traces};
 ghost use Rattle.otel_trace_run.specs.Paintings.{picture_of};
@@ -20,7 +20,7 @@ use otel_export::trace::SpanData;
 use otel_picture::traces::Traces;
 use otel_pipeline::trace::{KeepsBatches, ProviderOf, Provides};
 use otel_sampling::trace::{GivesIds, ShouldSample};
-use otel_shown::ShownSpan;
+use otel_shown::{ShownResource, ShownSpan};
 use otel_trace_lines::{Answer, Command, Dialect, Reply, ReplyLines, Script, parse};
 use otel_trace_session::Session;
 use std::alloc::{AllocError, Global};
@@ -77,11 +77,12 @@ impl SpanPainter for PictureForm {
 
 /// Exported spans as they are shown: nobody says whose they are.
 pub fn shown_spans(alloc: Global, spans: Vec<SpanData>) -> Result<Vec<ShownSpan>, AllocError>
-    ensures { IfOk result (λ shown. shown.items ≡ map (shown_span []) spans.items) }
+    ensures { IfOk result (λ shown. shown.items ≡ map (shown_span no_resource) spans.items) }
 {
+    let nobody = ShownResource::new(alloc, String::new(alloc), String::new(alloc))?;
     let mut shown = Vec::with_capacity(alloc, spans.len())?;
     for span in spans {
-        shown.push(ShownSpan::of(alloc, String::new(alloc), span)?)?;
+        shown.push(ShownSpan::of(alloc, nobody.clone()?, span)?)?;
     }
     Ok(shown)
 }

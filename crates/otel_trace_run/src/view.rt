@@ -156,7 +156,16 @@ fn push_item(said: &mut String, list: ItemList, number: u64) -> Result<(), Alloc
             write!(said, "attribute {number} of span {span_id}")
         }
         ItemList::SpanEvents(span_id) => write!(said, "event {number} of span {span_id}"),
+        ItemList::EventAttributes(span_id, event) => {
+            write!(
+                said,
+                "attribute {number} of event {event} of span {span_id}"
+            )
+        }
         ItemList::SpanLinks(span_id) => write!(said, "link {number} of span {span_id}"),
+        ItemList::LinkAttributes(span_id, link) => {
+            write!(said, "attribute {number} of link {link} of span {span_id}")
+        }
     }
 }
 

@@ -1,7 +1,6 @@
 -- One attribute more.
 use Rattle.std.proofs.Common.{arith, map}
 use Rattle.json.specs.Value.{value_view}
-use Rattle.otel_otlp_read.specs.declared.left_out.ItemList.TheVariants.{SpanAttributes}
 use Rattle.otel_otlp_read.specs.Kept.{kept_from}
 use Rattle.otel_otlp_read.specs.SpanLists.{attribute_line}
 use Rattle.otel_otlp_read.proofs.KeptReading.{item_of, kept_ends, kept_more}
@@ -10,7 +9,7 @@ use Rattle.otel_otlp_read.proofs.attributes.each_attribute.Goals as goal
 pub loop-place-preserved : goal.loop-place-preserved
 loop-place-preserved c =
     let read = attribute_line in
-    let list = SpanAttributes c.args.span_id in
+    let list = c.args.list.now in
     let items = c.args.items.now in
     kept_more (item_of read list) value_view items c.loop-place.place c.loop-place.read
     (kept_from read list 1 (map value_view items)) c.index-items-place.result c.add.new.self (omega arith)
@@ -19,7 +18,7 @@ loop-place-preserved c =
 pub returns : goal.returns
 returns c =
     let read = attribute_line in
-    let list = SpanAttributes c.args.span_id in
+    let list = c.args.list.now in
     let items = c.args.items.now in
     kept_ends (item_of read list) value_view items c.loop-place.place c.loop-place.read
     (kept_from read list 1 (map value_view items)) (omega arith) c.loop-place.invariant

@@ -1,27 +1,22 @@
 -- One event more.
 use Rattle.std.proofs.Common.{arith, map}
-use Rattle.json.specs.Json.{Json}
 use Rattle.json.specs.Value.{value_view}
-use Rattle.otel_otlp_read.specs.declared.left_out.ItemList.TheVariants.{SpanEvents}
-use Rattle.otel_otlp_read.specs.Kept.{kept_from}
-use Rattle.otel_otlp_read.specs.Reading.{only}
-use Rattle.otel_otlp_read.specs.SpanLists.{event_in}
-use Rattle.otel_otlp_read.proofs.KeptReading.{item_of, kept_ends, kept_more}
+use Rattle.otel_otlp_read.specs.Kept.{kept_by}
+use Rattle.otel_otlp_read.specs.SpanLists.{event_at}
+use Rattle.otel_otlp_read.proofs.KeptReading.{kept_ends, kept_more}
 use Rattle.otel_otlp_read.proofs.event.each_event.Goals as goal
 
 pub loop-place-preserved : goal.loop-place-preserved
 loop-place-preserved c =
-    let read = λ (item : Json). only (event_in item) in
-    let list = SpanEvents c.args.span_id in
+    let read = event_at c.args.span_id in
     let items = c.args.items.now in
-    kept_more (item_of read list) value_view items c.loop-place.place c.loop-place.read
-    (kept_from read list 1 (map value_view items)) c.index-items-place.result c.add.new.self (omega arith)
-    c.index-items-place.is c.loop-place.invariant (c.in_ok-add.ensures {u = tt})
+    kept_more read value_view items c.loop-place.place c.loop-place.read (kept_by read 1 (map value_view items))
+    c.index-items-place.result c.add.new.self (omega arith) c.index-items-place.is c.loop-place.invariant
+    (c.in_ok-add.ensures {u = tt})
 
 pub returns : goal.returns
 returns c =
-    let read = λ (item : Json). only (event_in item) in
-    let list = SpanEvents c.args.span_id in
+    let read = event_at c.args.span_id in
     let items = c.args.items.now in
-    kept_ends (item_of read list) value_view items c.loop-place.place c.loop-place.read
-    (kept_from read list 1 (map value_view items)) (omega arith) c.loop-place.invariant
+    kept_ends read value_view items c.loop-place.place c.loop-place.read (kept_by read 1 (map value_view items))
+    (omega arith) c.loop-place.invariant

@@ -1,15 +1,12 @@
 -- The events so far, and those that are left, are all.
-use Rattle.std.proofs.Common.{◌≡◌, ◌+◌, ℕ, List, drop, map}
-use Rattle.json.specs.Json.{Json}
+use Rattle.std.proofs.Common.{◌≡◌, ◌+◌, drop, map}
 use Rattle.json.specs.Value.{value_view}
-use Rattle.otel_otlp_read.specs.declared.left_out.ItemList.TheVariants.{SpanEvents}
-use Rattle.otel_otlp_read.specs.Kept.{and_kept, kept_from}
-use Rattle.otel_otlp_read.specs.Reading.{only}
-use Rattle.otel_otlp_read.specs.SpanLists.{event_in}
+use Rattle.otel_otlp_read.specs.Kept.{and_kept, kept_by}
+use Rattle.otel_otlp_read.specs.SpanLists.{event_at}
 use Rattle.otel_otlp_read.proofs.event.each_event.Given as goal
 
 abbrev pub invariant-loop-place : goal.invariant-loop-place
 invariant-loop-place l =
-    let read = λ (item : Json). only (event_in item) in
-    let from = λ (n : ℕ) (js : List Json). kept_from read (SpanEvents l.span_id) n js in
-    and_kept l.read (from (l.place + 1) (map value_view (drop l.place l.items))) ≡ from 1 (map value_view l.items)
+    let read = event_at l.span_id in
+    and_kept l.read (kept_by read (l.place + 1) (map value_view (drop l.place l.items)))
+    ≡ kept_by read 1 (map value_view l.items)

@@ -8,7 +8,7 @@ use Rattle.otel_otlp_read.proofs.request.push_scopes.Goals as goal
 
 pub loop-place-preserved : goal.loop-place-preserved
 loop-place-preserved c =
-    let read = scope_spans_in c.args.service.now c.args.resource in
+    let read = scope_spans_in c.args.shown.now c.args.resource in
     let items = c.args.items.now in
     kept_more read value_view items c.loop-place.place c.loop-place.out
     (and_kept c.args.out.now (kept_by read 1 (map value_view items))) c.index-items-place.result c.push_scope.new.out
@@ -16,7 +16,7 @@ loop-place-preserved c =
 
 pub returns : goal.returns
 returns c =
-    let read = scope_spans_in c.args.service.now c.args.resource in
+    let read = scope_spans_in c.args.shown.now c.args.resource in
     let items = c.args.items.now in
     kept_ends read value_view items c.loop-place.place c.loop-place.out
     (and_kept c.args.out.now (kept_by read 1 (map value_view items))) (omega arith) c.loop-place.invariant

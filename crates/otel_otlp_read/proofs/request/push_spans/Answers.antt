@@ -9,7 +9,7 @@ use Rattle.otel_otlp_read.proofs.request.push_spans.Goals as goal
 
 pub loop-place-preserved : goal.loop-place-preserved
 loop-place-preserved c =
-    let read = span_at c.args.service.now (Spans c.args.scope.resource c.args.scope.scope) in
+    let read = span_at c.args.shown.now (Spans c.args.scope.resource c.args.scope.scope) in
     let items = c.args.items.now in
     kept_more read value_view items c.loop-place.place c.loop-place.out
     (and_kept c.args.out.now (kept_by read 1 (map value_view items))) c.index-items-place.result c.push_span.new.out
@@ -17,7 +17,7 @@ loop-place-preserved c =
 
 pub returns : goal.returns
 returns c =
-    let read = span_at c.args.service.now (Spans c.args.scope.resource c.args.scope.scope) in
+    let read = span_at c.args.shown.now (Spans c.args.scope.resource c.args.scope.scope) in
     let items = c.args.items.now in
     kept_ends read value_view items c.loop-place.place c.loop-place.out
     (and_kept c.args.out.now (kept_by read 1 (map value_view items))) (omega arith) c.loop-place.invariant

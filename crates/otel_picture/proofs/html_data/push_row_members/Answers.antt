@@ -13,4 +13,5 @@ returns-clause-written c =
     (and_then c.push_place.new.out.tokens _ _ _ _ _ c.in_ok-push_name.ensures.written
     (and_then c.push_name.new.out.tokens _ _ _ _ _ c.in_ok-push_span_time.ensures.written
     (and_then c.push_span_time.new.out.tokens _ _ _ _ _ (c.in_ok-push_status.ensures.written ∙ status)
-    c.push_recorded.ensures.written)))
+    (and_then c.push_status.new.out.tokens _ _ _ _ _ c.in_ok-push_recorded.ensures.written
+    c.push_resource.ensures.written))))

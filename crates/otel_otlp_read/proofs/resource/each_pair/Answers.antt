@@ -3,13 +3,13 @@ use Rattle.std.proofs.Common.{arith, map}
 use Rattle.json.specs.Value.{value_view}
 use Rattle.otel_otlp_read.specs.declared.left_out.ItemList.TheVariants.{ResourceAttributes}
 use Rattle.otel_otlp_read.specs.Kept.{kept_from}
-use Rattle.otel_otlp_read.specs.Services.{named_in}
+use Rattle.otel_otlp_read.specs.Resources.{pair_in}
 use Rattle.otel_otlp_read.proofs.KeptReading.{item_of, kept_ends, kept_more}
-use Rattle.otel_otlp_read.proofs.service.each_name.Goals as goal
+use Rattle.otel_otlp_read.proofs.resource.each_pair.Goals as goal
 
 pub loop-place-preserved : goal.loop-place-preserved
 loop-place-preserved c =
-    let read = named_in in
+    let read = pair_in in
     let list = ResourceAttributes c.args.resource in
     let items = c.args.items.now in
     kept_more (item_of read list) value_view items c.loop-place.place c.loop-place.read
@@ -18,7 +18,7 @@ loop-place-preserved c =
 
 pub returns : goal.returns
 returns c =
-    let read = named_in in
+    let read = pair_in in
     let list = ResourceAttributes c.args.resource in
     let items = c.args.items.now in
     kept_ends (item_of read list) value_view items c.loop-place.place c.loop-place.read
