@@ -1,14 +1,16 @@
 -- A session that carries out commands and then a shutdown closes as in the mode `trace`, and its replies show all spans
 -- that it exported.
-use Rattle.std.proofs.Common.{◌≡◌, ◌++◌, ◌∙◌, ◌==◌, ℕ, Bool, true, false, List, [], ◌∷◌, Option, None, Result, Ok, Err, IsTrue, MatchBool, ◌||◌}
+use Rattle.std.proofs.Common.{◌≡◌, ◌++◌, ◌∙◌, ◌==◌, ℕ, Bool, true, false, List, [], ◌∷◌, Option, Some, None, Result, Ok, Err, IsTrue, MatchBool, ◌||◌}
 use Rattle.std.proofs.Common.{All, sum_by, inl, inr, ap, append-nil, append_assoc, arith, map, refl, subst, sym, not, if◌then◌else◌}
 use Rattle.std.proofs.lemmas.Bool.{eq-eqb}
 use Rattle.std.proofs.lemmas.List.{map-append}
 use Rattle.std.proofs.lemmas.List.Concat.{flat_map-append}
-use Rattle.std.specs.Io.KnownBytes.{IsAtEnd}
+use Rattle.std.specs.Io.KnownBytes.{Appends, IsAtEnd}
 use Rattle.std.specs.List.{list_any}
+use Rattle.std.specs.Prelude.{IfSome}
 use Rattle.otel_export.specs.PlainSpanData.{PlainSpanData, spans_in}
 use Rattle.otel_export.specs.StoredBatches.{StoredBatches}
+use Rattle.otel_export.specs.Streams.{AppendsBeginning}
 use Rattle.otel_export.specs.declared.error.OTelSdkError.{OTelSdkError}
 use Rattle.otel_export.specs.declared.error.OTelSdkError.TheVariants as errors
 use Rattle.otel_pipeline.specs.ProcessorKeeps.{OnlyAppends}
@@ -21,10 +23,11 @@ use Rattle.otel_trace_lines.specs.declared.dialect.Dialect.TheVariants as dialec
 use Rattle.otel_trace_lines.specs.declared.command.Command.{Command}
 use Rattle.otel_trace_session.specs.Stops.{Gains}
 use Rattle.otel_trace_run.specs.OtlpRuns.{exported_since}
-use Rattle.otel_trace_run.specs.PictureRuns.{Draws, DrawsAll, DrawsLines, DrawsSome, DrawsUnder, Painting, RunsOut, RunsShutdown, picture_lines, says_shut}
+use Rattle.otel_trace_run.specs.PictureRuns.{Draws, DrawsAll, DrawsLines, DrawsSome, DrawsUnder, HasNoSpan, HasSpan, Painting, RunsOut, RunsShutdown, end_of, picture_lines, says_shut}
 use Rattle.otel_sampling.specs.declared.trace.sampler.SamplerOf.{SamplerOf}
 use Rattle.otel_trace_run.specs.Program.{BeginsDrawing, DrawsAsked, IsProviderOf, MemoryProcessor}
-use Rattle.otel_trace_run.specs.Streams.{AreAll, EndsAs, Streams}
+use Rattle.otel_trace_run.specs.Streams.{AreAll, EndsAs, Streams, WhyBad}
+use Rattle.otel_trace_run.specs.declared.reason.Reason.{Reason}
 use Rattle.otel_trace_run.specs.declared.mode.Asked.{Asked}
 use Rattle.otel_export.proofs.StreamLemmas.{appends_all}
 use Rattle.otel_trace_run.specs.declared.run_end.RunEnd.{RunEnd}
@@ -105,13 +108,13 @@ module _ {P S G : Type 0} (calls : Calls P S G)
     (law : OnlyAppends calls.processor calls.timer calls.keeps.stored) where
   -- the lines of a text were carried out, and a session that then closed well exported these spans
   pub draws : (Paints : Painting) (provider : ProviderState P S G) (begun after : SessionState P S G)
-      (input input_after : Option (List ℕ)) (bad_line : Option ℕ) (picture left : List ℕ) → BeginsUnder calls provider begun
-      → (lines : DrawsLines calls Paints begun input input_after bad_line picture after)
+      (input input_after : Option (List ℕ)) (end : RunEnd) (picture left : List ℕ) → BeginsUnder calls provider begun
+      → (lines : DrawsLines calls Paints begun input input_after end picture after)
       → (closed : Closes calls picture_lines after [] (Ok tt) left)
       → sum_by calls.queues.open_over closed.provider.processors ≡ 0
       → sum_by calls.queues.dropped_over closed.provider.processors ≡ 0
-      → Draws calls Paints provider lines.reads.bytes bad_line picture
-  draws Paints provider begun after input input_after bad_line picture left begins lines closed left_open dropped =
+      → Draws calls Paints provider lines.reads.bytes lines.bad_line lines.spans picture
+  draws Paints provider begun after input input_after end picture left begins lines closed left_open dropped =
       let ran = lines.ran in
       let middle = ran.middle in
       let took = ran.ran.took (λ _. None) (nothing_described begun.spans begins.spans) in
@@ -163,28 +166,77 @@ module _ {P S G : Type 0} (calls : Calls P S G)
           drops_none = λ _. none_dropped;
         };
         drops_none = none_dropped;
-        drawn = subst (λ (spans : List PlainSpanData). Paints spans picture) (ran.shown ∙ ap spans_in all) lines.drawn;
+        exported = ran.shown ∙ ap spans_in all;
+        drawn = lines.drawn;
       }
 
 module _ {P S G : Type 0} (calls : Calls P S G) (Paints : Painting) (provider : ProviderState P S G) where
   -- what was drawn whole is a beginning
-  pub drawn_begun : (s : Streams) (bad_line : Option ℕ) → DrawsAll calls Paints provider s bad_line
-      → DrawsSome calls Paints provider s
-  drawn_begun s bad_line h = inr (h.bytes, bad_line, h.picture, h.all, h.draws, appends_all s.output s.output_after h.picture h.written)
+  drawn_begun : (Holds : List PlainSpanData → Type 0) (s : Streams) (bad_line : Option ℕ)
+      → DrawsAll calls Paints provider Holds s bad_line → DrawsSome calls Paints provider s
+  drawn_begun Holds s bad_line h =
+      inr (h.bytes, bad_line, h.spans, h.picture, h.all, h.draws, appends_all s.output s.output_after h.picture h.written)
+
+  -- how a run ends whose picture was written, by its bad line and its spans
+  ends_drawn : (s : Streams) (bytes : List ℕ) (bad_line : Option ℕ) (reason : Option Reason) (spans : List PlainSpanData)
+      (picture : List ℕ) → AreAll s.input bytes → IsAtEnd s.input_after
+      → IfSome bad_line (λ line. WhyBad true s.input line reason)
+      → Draws calls Paints provider bytes bad_line spans picture → Appends s.output s.output_after picture
+      → DrawsUnder calls Paints provider s (end_of bad_line reason spans)
+  ends_drawn s bytes (Some line) reason spans picture all at_end why drawn written = (
+    record { bytes = bytes; spans = spans; picture = picture; all = all; draws = drawn; holds = tt; written = written },
+    why,
+  )
+  ends_drawn s bytes None reason [] picture all at_end why drawn written = (
+    record { bytes = bytes; spans = []; picture = picture; all = all; draws = drawn; holds = refl; written = written },
+    at_end,
+  )
+  ends_drawn s bytes None reason (span ∷ spans) picture all at_end why drawn written = (
+    record {
+      bytes = bytes;
+      spans = span ∷ spans;
+      picture = picture;
+      all = all;
+      draws = drawn;
+      holds = λ none. cc;
+      written = written;
+    },
+    at_end,
+  )
+
+  -- what was drawn of an input, of which a beginning was written or all
+  pub drawn_some : (session after : SessionState P S G) (s : Streams) (end : RunEnd) (picture : List ℕ)
+      → (lines : DrawsLines calls Paints session s.input s.input_after end picture after)
+      → Draws calls Paints provider lines.reads.bytes lines.bad_line lines.spans picture
+      → AppendsBeginning s.output s.output_after picture → DrawsSome calls Paints provider s
+  drawn_some session after s end picture lines drawn written =
+      inr (lines.reads.bytes, lines.bad_line, lines.spans, picture, lines.reads.all, drawn, written)
+
+  pub drawn_as : (session after : SessionState P S G) (s : Streams) (end : RunEnd) (picture : List ℕ)
+      → (lines : DrawsLines calls Paints session s.input s.input_after end picture after)
+      → Draws calls Paints provider lines.reads.bytes lines.bad_line lines.spans picture
+      → Appends s.output s.output_after picture → DrawsUnder calls Paints provider s end
+  drawn_as session after s end picture lines drawn written =
+      subst (DrawsUnder calls Paints provider s) (sym lines.ends)
+      (ends_drawn s lines.reads.bytes lines.bad_line lines.reason lines.spans picture lines.reads.all lines.reads.at_end
+      lines.why drawn written)
 
 module _ {C D E : Type 0} (calls : Calls (MemoryProcessor C D) (SamplerOf E) (List ℕ)) where
   -- what is drawn under the provider that is asked for
   pub draws_asked : (Paints : Painting) (asked : Asked) (provider : ProviderState (MemoryProcessor C D) (SamplerOf E) (List ℕ))
       (s : Streams) (end : RunEnd) → IsProviderOf true asked provider → DrawsUnder calls Paints provider s end
-      → EndsAs true (DrawsAsked calls asked Paints s) (BeginsDrawing calls asked Paints s) s end
+      → EndsAs true (λ bad_line. DrawsAsked calls asked Paints (HasSpan bad_line) s bad_line)
+      (DrawsAsked calls asked Paints HasNoSpan s None) (BeginsDrawing calls asked Paints s) s end
   draws_asked Paints asked provider s ends.Done of h = ((provider, of, h.0), h.1)
+  draws_asked Paints asked provider s ends.Empty of h = ((provider, of, h.0), h.1)
   draws_asked Paints asked provider s (ends.BadLine line reason) of h = ((provider, of, h.0), h.1)
   draws_asked Paints asked provider s ends.Failed of h = inr (provider, of, h)
 
   -- what was drawn whole is a beginning
-  pub drawing_begun : (Paints : Painting) (asked : Asked) (s : Streams) (bad_line : Option ℕ)
-      → DrawsAsked calls asked Paints s bad_line → BeginsDrawing calls asked Paints s
-  drawing_begun Paints asked s bad_line (provider, of, h) = inr (provider, of, drawn_begun calls Paints provider s bad_line h)
+  pub drawing_begun : (Paints : Painting) (Holds : List PlainSpanData → Type 0) (asked : Asked) (s : Streams)
+      (bad_line : Option ℕ) → DrawsAsked calls asked Paints Holds s bad_line → BeginsDrawing calls asked Paints s
+  drawing_begun Paints Holds asked s bad_line (provider, of, h) =
+      inr (provider, of, drawn_begun calls Paints provider Holds s bad_line h)
 
 -- what none of the replies counts that were looked at
 pub none_counted : (replies : List PlainReply) → list_any (λ (reply : PlainReply). counts_refusals reply.answer) replies ≡ false
@@ -246,12 +298,11 @@ module _ {P S G : Type 0} (calls : Calls P S G)
     (law : OnlyAppends calls.processor calls.timer calls.keeps.stored) where
   -- what was drawn of an input by a new session that then closed well
   pub draws_from : (Paints : Painting) (provider : ProviderState P S G) (session after : SessionState P S G)
-      (input input_after : Option (List ℕ)) (bad_line bad : Option ℕ) (picture before left : List ℕ)
+      (input input_after : Option (List ℕ)) (end : RunEnd) (picture before left : List ℕ)
       (closed : ClosedSession) (dialect : Dialect) → dialect ≡ dialects.Extended → BeginsUnder calls provider session
-      → DrawsLines calls Paints session input input_after bad_line picture after → bad_line ≡ bad → before ≡ []
+      → (lines : DrawsLines calls Paints session input input_after end picture after) → before ≡ []
       → LostNothing closed true → ClosesAs calls (reply_lines_in dialect) after before closed left
-      → (bytes : List ℕ) × AreAll input bytes × IsAtEnd input_after × Draws calls Paints provider bytes bad picture
-  draws_from Paints provider session after input input_after bad_line bad picture before left ended dialect extended new lines is none lost closed =
-      let these = subst (λ (b : Option ℕ). DrawsLines calls Paints session input input_after b picture after) is lines in
-      let ends = ends_well calls picture_lines after before left ended true none lost (subst (λ (d : Dialect). ClosesAs calls (reply_lines_in d) after before ended left) extended closed) in
-      (these.reads.bytes, these.reads.all, these.reads.at_end, draws calls law Paints provider session after input input_after bad picture left new these ends.closes ends.leaves_none (ends.drops_none refl))
+      → Draws calls Paints provider lines.reads.bytes lines.bad_line lines.spans picture
+  draws_from Paints provider session after input input_after end picture before left ended dialect extended new lines none lost closed =
+      let ending = ends_well calls picture_lines after before left ended true none lost (subst (λ (d : Dialect). ClosesAs calls (reply_lines_in d) after before ended left) extended closed) in
+      draws calls law Paints provider session after input input_after end picture left new lines ending.closes ending.leaves_none (ending.drops_none refl)

@@ -194,9 +194,10 @@ module _ {P S G : Type 0} (calls : Calls P S G)
   exports_some provider s (inr h) = record { traces = inr h; written = begins_requests provider h.0 s h.1 h.2 }
 
   pub exports_as : (provider : ProviderState P S G) (s : Streams) (end : RunEnd)
-      → EndsAs true (TracesWhole calls (otlp_form requests) provider s) (TracesBegun calls (otlp_form requests) provider s) s end
-      → EndsAs true (ExportsAll calls requests provider s) (ExportsSome calls requests provider s) s end
+      → EndsAs true (TracesWhole calls (otlp_form requests) provider s) ⊥ (TracesBegun calls (otlp_form requests) provider s) s end
+      → EndsAs true (ExportsAll calls requests provider s) ⊥ (ExportsSome calls requests provider s) s end
   exports_as provider s ends.Done h = (exports_all provider s None h.0, h.1)
+  exports_as provider s ends.Empty h = absurd h.0
   exports_as provider s (ends.BadLine line reason) h = (exports_all provider s (Some line) h.0, h.1)
   exports_as provider s ends.Failed h = exports_some provider s h
 
@@ -220,10 +221,11 @@ module _ {C D E : Type 0} (calls : Calls (MemoryProcessor C D) (SamplerOf E) (Li
   -- what is exported of this resource under the provider that is asked for
   pub exports_asked : (provider : ProviderState (MemoryProcessor C D) (SamplerOf E) (List ℕ)) (s : Streams) (end : RunEnd)
       → IsDetected (strings_given given) resource → IsProviderOf true export.asked provider
-      → EndsAs true (ExportsAll calls (requests_of export resource) provider s)
+      → EndsAs true (ExportsAll calls (requests_of export resource) provider s) ⊥
       (ExportsSome calls (requests_of export resource) provider s) s end
-      → EndsAs true (ExportsAsked calls export given s) (BeginsExporting calls export given s) s end
+      → EndsAs true (ExportsAsked calls export given s) ⊥ (BeginsExporting calls export given s) s end
   exports_asked provider s ends.Done is of h = ((resource, is, provider, of, h.0), h.1)
+  exports_asked provider s ends.Empty is of h = absurd h.0
   exports_asked provider s (ends.BadLine line reason) is of h = ((resource, is, provider, of, h.0), h.1)
   exports_asked provider s ends.Failed is of h = inr (resource, is, provider, of, h)
 

@@ -150,9 +150,9 @@ answered_begins (Err e) m after text before now none h k =
     subst (BeginsAnswers m text) (sym (k.1 ∙ ap (λ bs. bs ++ k.0) none)) (beginning_begins m after text k.0 k.2)
 
 -- how it ends at a bad line
-pub ends_bad : (Whole : Option ℕ → Type 0) (Begun : Type 0) (s : Streams) (line : ℕ) (end : RunEnd) → (end ≡ ends.Failed) ⊎ (end ≡ ends.BadLine line None) → Whole (Some line) → Begun → EndsAs false Whole Begun s end
-ends_bad Whole Begun s line end (inl failed) h k = subst (EndsAs false Whole Begun s) (sym failed) k
-ends_bad Whole Begun s line end (inr bad) h k = subst (EndsAs false Whole Begun s) (sym bad) (h, refl)
+pub ends_bad : (Whole : Option ℕ → Type 0) (Begun : Type 0) (s : Streams) (line : ℕ) (end : RunEnd) → (end ≡ ends.Failed) ⊎ (end ≡ ends.BadLine line None) → Whole (Some line) → Begun → EndsAs false Whole ⊥ Begun s end
+ends_bad Whole Begun s line end (inl failed) h k = subst (EndsAs false Whole ⊥ Begun s) (sym failed) k
+ends_bad Whole Begun s line end (inr bad) h k = subst (EndsAs false Whole ⊥ Begun s) (sym bad) (h, refl)
 
 -- all answers are a beginning of them
 to_begun : (start after : Machine StoredBatches) (s : Streams) (bad_line : Option ℕ) → StepsTo start after s bad_line → StepsSome start s
@@ -170,11 +170,13 @@ all_begun start s bad_line h = to_begun start h.after s bad_line h.steps
 -- however it ended
 pub ended_begun : (start after : Machine StoredBatches) (s : Streams) (end : RunEnd) → StepsOn start after s end → StepsSome start s
 ended_begun start after s ends.Done h = to_begun start after s None h.0
+ended_begun start after s ends.Empty h = absurd h.0
 ended_begun start after s (ends.BadLine line reason) h = to_begun start after s (Some line) h.0
 ended_begun start after s ends.Failed h = h
 
 -- where the exporter lost no batch
 pub ended_whole : (start after : Machine StoredBatches) (s : Streams) (end : RunEnd) → after.exporter.lost ≡ 0 → StepsOn start after s end → Steps start s end
 ended_whole start after s ends.Done none h = (record { after = after; steps = h.0; loses_none = none }, h.1)
+ended_whole start after s ends.Empty none h = absurd h.0
 ended_whole start after s (ends.BadLine line reason) none h = (record { after = after; steps = h.0; loses_none = none }, h.1)
 ended_whole start after s ends.Failed none h = h

@@ -84,14 +84,16 @@ module _ {P S G : Type 0} (calls : Calls P S G) (form : Form) (begun : SessionSt
   pub closed_some : (now : SessionState P S G) (input after output reached output_after : Option (List ℕ)) (end : RunEnd) (answer : Result (Unit {0}) OTelSdkError) (closing : List ℕ) → ¬ (end ≡ ends.Failed) → FedAs calls form begun now (streams input after output reached) end
       → Closes calls form now [] answer closing → AppendsBeginning reached output_after closing → TracesSome calls form begun (streams input after output output_after)
   closed_some now input after output reached output_after ends.Done answer closing goes h k written = inr (None, some_closed now input after output reached output_after None answer closing h.0 k written)
+  closed_some now input after output reached output_after ends.Empty answer closing goes h k written = absurd h
   closed_some now input after output reached output_after (ends.BadLine line reason) answer closing goes h k written = inr (Some line, some_closed now input after output reached output_after (Some line) answer closing h.0 k written)
   closed_some now input after output reached output_after ends.Failed answer closing goes h k written = absurd (goes refl)
 
   -- a session was fed and closed well, and all was written
   pub closed_as : (now : SessionState P S G) (input after output reached output_after : Option (List ℕ)) (end : RunEnd) (closing : List ℕ) → ¬ (end ≡ ends.Failed) → FedAs calls form begun now (streams input after output reached) end
       → EndsWell calls form now form.minds_drops closing → Appends reached output_after closing
-      → EndsAs true (TracesAll calls form begun (streams input after output output_after)) (TracesSome calls form begun (streams input after output output_after)) (streams input after output output_after) end
+      → EndsAs true (TracesAll calls form begun (streams input after output output_after)) ⊥ (TracesSome calls form begun (streams input after output output_after)) (streams input after output output_after) end
   closed_as now input after output reached output_after ends.Done closing goes h k written = (all_closed now input after output reached output_after None closing h.0 k written, h.1)
+  closed_as now input after output reached output_after ends.Empty closing goes h k written = absurd h
   closed_as now input after output reached output_after (ends.BadLine line reason) closing goes h k written = (all_closed now input after output reached output_after (Some line) closing h.0 k written, h.1)
   closed_as now input after output reached output_after ends.Failed closing goes h k written = absurd (goes refl)
 
@@ -124,6 +126,7 @@ module _ {P S G : Type 0} (calls : Calls P S G) (form : Form) where
   pub traced_under : (provider : ProviderState P S G) (begun : SessionState P S G) (s : Streams) (end : RunEnd) → BeginsUnder calls provider begun
       → Traces calls form begun s end → TracesUnder calls form provider s end
   traced_under provider begun s ends.Done begins h = ((begun, begins, h.0), h.1)
+  traced_under provider begun s ends.Empty begins h = absurd h.0
   traced_under provider begun s (ends.BadLine line reason) begins h = ((begun, begins, h.0), h.1)
   traced_under provider begun s ends.Failed begins h = inr (begun, begins, h)
 

@@ -80,4 +80,4 @@ module _ {P S G : Type 0} (calls : Calls P S G) (requests : Encoded) where
 
   -- what a session did whose batches are written, by how it ended
   abbrev pub ExportsUnder : ProviderState P S G → Streams → RunEnd → Type 0
-  ExportsUnder provider s end = EndsAs true (ExportsAll provider s) (ExportsSome provider s) s end
+  ExportsUnder provider s end = EndsAs true (ExportsAll provider s) ⊥ (ExportsSome provider s) s end

@@ -1,5 +1,5 @@
 -- What is painted of spans.
-use Rattle.std.specs.Prelude.{◌≡◌, ℕ, Bool, false, List, [], map}
+use Rattle.std.specs.Prelude.{◌≡◌, ℕ, Bool, false, List, map}
 use Rattle.otel_export.specs.PlainSpanData.{PlainSpanData}
 use Rattle.otel_shown.specs.Shown.{no_resource, shown_span}
 use Rattle.otel_picture.specs.Drawn.{AreTracesOf, PlainTraces}

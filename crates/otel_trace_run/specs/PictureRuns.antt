@@ -1,5 +1,6 @@
 -- What the modes `picture` and `svg` do with their streams: all spans that a session exports are drawn.
-use Rattle.std.specs.Prelude.{◌≡◌, ◌⊎◌, ℕ, Bool, true, false, List, [], ◌∷◌, ◌++◌, Option, All, IsTrue, sum_by}
+use Rattle.std.specs.Prelude.{◌≡◌, ◌≢◌, ◌⊎◌, ℕ, Bool, true, false, List, [], ◌∷◌, ◌++◌, Option, Some, None, All}
+use Rattle.std.specs.Prelude.{IfSome, IsTrue, sum_by, ⊤}
 use Rattle.std.specs.Io.KnownBytes.{Appends, IsAtEnd}
 use Rattle.otel_export.specs.PlainSpanData.{PlainSpanData, spans_in}
 use Rattle.otel_export.specs.declared.error.OTelSdkError.TheVariants as errors
@@ -15,8 +16,10 @@ use Rattle.otel_trace_lines.specs.declared.dialect.Dialect.TheVariants as dialec
 use Rattle.otel_trace_lines.specs.declared.reply.Answer.{Answer}
 use Rattle.otel_trace_lines.specs.declared.reply.Answer.TheVariants as answers
 use Rattle.otel_trace_run.specs.OtlpRuns.{exported_since}
-use Rattle.otel_trace_run.specs.Streams.{AreAll, EndsAs, Streams}
+use Rattle.otel_trace_run.specs.Streams.{AreAll, EndsAs, Streams, WhyBad}
+use Rattle.otel_trace_run.specs.declared.reason.Reason.{Reason}
 use Rattle.otel_trace_run.specs.declared.run_end.RunEnd.{RunEnd}
+use Rattle.otel_trace_run.specs.declared.run_end.RunEnd.TheVariants as ends
 use Rattle.otel_trace_session.specs.Calls.{Calls}
 use Rattle.otel_trace_session.specs.Closing.{Finishes}
 use Rattle.otel_trace_session.specs.Shown.{exported_in}
@@ -44,6 +47,13 @@ pub record ReadsScript (input after : Option (List ℕ)) (commands : List PlainC
   pub at_end : IsAtEnd after
   pub spelled : TextSpells dialects.Extended bytes commands bad_line
 
+-- how a run ends of whose input these spans are drawn: those of its lines up to the first bad one, which is bad for
+-- this reason
+abbrev pub end_of : (bad_line : Option ℕ) → Option Reason → List PlainSpanData → RunEnd
+end_of (Some line) reason spans = ends.BadLine line reason
+end_of None reason [] = ends.Empty
+end_of None reason (span ∷ spans) = ends.Done
+
 module _ {P S G : Type 0} (calls : Calls P S G) where
   -- a session carried out a shutdown, after which its provider is shut
   pub record RunsShutdown (old : SessionState P S G) (replies : List PlainReply) (new : SessionState P S G)
@@ -62,41 +72,60 @@ module _ {P S G : Type 0} (calls : Calls P S G) where
     pub shut : RunsShutdown middle last new
     pub shown : spans ≡ spans_in (exported_in (replies ++ last))
 
-  -- a session carried out the lines of an input, up to its first bad line, and then a shutdown, and this is what
-  -- was painted of the spans that it exported
+  -- a session carried out the lines of an input, up to its first bad line, and then a shutdown; this is what was
+  -- painted of the spans that it exported, and so ends the run that writes it
   pub record DrawsLines (Paints : Painting) (old : SessionState P S G) (input after : Option (List ℕ))
-      (bad_line : Option ℕ) (picture : List ℕ) (new : SessionState P S G) : Type 0 where
+      (end : RunEnd) (picture : List ℕ) (new : SessionState P S G) : Type 0 where
     pub commands : List Command
+    pub bad_line : Option ℕ
+    pub reason : Option Reason
     pub spans : List PlainSpanData
     pub reads : ReadsScript input after (plain_commands commands) bad_line
+    pub why : IfSome bad_line (λ line. WhyBad true input line reason)
     pub ran : RunsOut old commands spans new
     pub drawn : Paints spans picture
+    pub ends : end ≡ end_of bad_line reason spans
+
+-- that there is a span to draw; in front of a bad line there may be none
+abbrev pub HasSpan : (bad_line : Option ℕ) → List PlainSpanData → Type 0
+HasSpan None spans = spans ≢ []
+HasSpan (Some line) spans = ⊤
+
+-- that there is none
+abbrev pub HasNoSpan : List PlainSpanData → Type 0
+HasNoSpan spans = spans ≡ []
 
 module _ {P S G : Type 0} (calls : Calls P S G) (Paints : Painting)
     (provider : ProviderState P S G) where
-  -- one session carried out a text, up to its first bad line, and closed as in the mode `trace`, and this is what was
-  -- painted of all spans that it exported, in order; none was dropped at a full queue
-  pub record Draws (bytes : List ℕ) (bad_line : Option ℕ) (picture : List ℕ) : Type 0 where
+  -- one session carried out a text, up to its first bad line, and closed as in the mode `trace`; these are all spans
+  -- that it exported, in order, and this is what was painted of them; none was dropped at a full queue
+  pub record Draws (bytes : List ℕ) (bad_line : Option ℕ) (spans : List PlainSpanData) (picture : List ℕ)
+      : Type 0 where
     pub replied : List ℕ
     pub begun : SessionState P S G
     pub begins : BeginsUnder calls provider begun
     pub finishes : Finishes calls picture_lines begun bytes bad_line replied
     pub drops_none : sum_by calls.queues.dropped_over finishes.closes.provider.processors ≡ 0
-    pub drawn : Paints (spans_in (exported_since calls provider finishes.closes.provider)) picture
+    pub exported : spans ≡ spans_in (exported_since calls provider finishes.closes.provider)
+    pub drawn : Paints spans picture
 
-  -- the output was given the picture of the whole input
-  pub record DrawsAll (s : Streams) (bad_line : Option ℕ) : Type 0 where
+  -- the output was given the picture of the whole input, of whose spans this holds
+  pub record DrawsAll (Holds : List PlainSpanData → Type 0) (s : Streams) (bad_line : Option ℕ) : Type 0 where
     pub bytes : List ℕ
+    pub spans : List PlainSpanData
     pub picture : List ℕ
     pub all : AreAll s.input bytes
-    pub draws : Draws bytes bad_line picture
+    pub draws : Draws bytes bad_line spans picture
+    pub holds : Holds spans
     pub written : Appends s.output s.output_after picture
 
   -- the output was given nothing, or a beginning of the picture of the whole input
   abbrev pub DrawsSome : Streams → Type 0
-  DrawsSome s = Appends s.output s.output_after [] ⊎ ((bytes : List ℕ) × (bad_line : Option ℕ) × (picture : List ℕ)
-      × AreAll s.input bytes × Draws bytes bad_line picture × AppendsBeginning s.output s.output_after picture)
+  DrawsSome s = Appends s.output s.output_after []
+      ⊎ ((bytes : List ℕ) × (bad_line : Option ℕ) × (spans : List PlainSpanData) × (picture : List ℕ)
+      × AreAll s.input bytes × Draws bytes bad_line spans picture × AppendsBeginning s.output s.output_after picture)
 
   -- what a session did whose spans are drawn, by how it ended
   abbrev pub DrawsUnder : Streams → RunEnd → Type 0
-  DrawsUnder s end = EndsAs true (DrawsAll s) (DrawsSome s) s end
+  DrawsUnder s end =
+      EndsAs true (λ bad_line. DrawsAll (HasSpan bad_line) s bad_line) (DrawsAll HasNoSpan s None) (DrawsSome s) s end

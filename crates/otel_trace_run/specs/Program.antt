@@ -10,6 +10,7 @@ use Rattle.otel_resource.specs.Resource.{PlainResource}
 use Rattle.otel_sampling.specs.Sampler.{plan, always_on, parent_based}
 use Rattle.otel_sampling.specs.declared.trace.sampler.SamplerOf.{SamplerOf}
 use Rattle.otel_batch.specs.PlainBatchConfig.{PlainBatchConfig, cut_to_queue, default_batch_config}
+use Rattle.otel_export.specs.PlainSpanData.{PlainSpanData}
 use Rattle.otel_export.specs.StoredBatches.{StoredBatches, none_stored}
 use Rattle.otel_export.specs.declared.trace.exporter_box.ExporterOf.{ExporterOf}
 use Rattle.otel_export.specs.declared.trace.exporter_box.ExporterOf.TheVariants as exporters
@@ -22,7 +23,7 @@ use Rattle.otel_trace_lines.specs.ReplyForm.{reply_lines}
 use Rattle.otel_trace_session.specs.Calls.{Calls}
 use Rattle.otel_trace_run.specs.Arguments.{PlainMode, otlp, picture, steps, trace}
 use Rattle.otel_trace_run.specs.OtlpRuns.{Encoded, ExportsAll, ExportsSome}
-use Rattle.otel_trace_run.specs.PictureRuns.{DrawsAll, DrawsSome, Painting}
+use Rattle.otel_trace_run.specs.PictureRuns.{DrawsAll, DrawsSome, HasNoSpan, HasSpan, Painting}
 use Rattle.otel_trace_run.specs.StepRuns.{StepsBegun, StepsSized}
 use Rattle.otel_trace_run.specs.Streams.{EndsAs, EndsWith, Streams}
 use Rattle.otel_trace_run.specs.TraceRuns.{TracesBegun, TracesWhole}
@@ -84,10 +85,10 @@ module _ {C D E : Type 0} (calls : Calls (MemoryProcessor C D) (SamplerOf E) (Li
       × IsProviderOf false asked provider × TracesBegun calls reply_lines provider s)
 
   -- the output was given the picture of the spans that a session exported over the whole input, under the provider that
-  -- is asked for
-  abbrev pub DrawsAsked : Painting → Streams → Option ℕ → Type 0
-  DrawsAsked Paints s bad_line = (provider : ProviderState (MemoryProcessor C D) (SamplerOf E) (List ℕ))
-      × IsProviderOf true asked provider × DrawsAll calls Paints provider s bad_line
+  -- is asked for, and of these spans this holds
+  abbrev pub DrawsAsked : Painting → (List PlainSpanData → Type 0) → Streams → Option ℕ → Type 0
+  DrawsAsked Paints Holds s bad_line = (provider : ProviderState (MemoryProcessor C D) (SamplerOf E) (List ℕ))
+      × IsProviderOf true asked provider × DrawsAll calls Paints provider Holds s bad_line
 
   -- the output was given a beginning of such a picture, or nothing
   abbrev pub BeginsDrawing : Painting → Streams → Type 0
@@ -136,7 +137,14 @@ module _ {C D E : Type 0} (calls : Calls (MemoryProcessor C D) (SamplerOf E) (Li
   GivesWhole (trace asked) s bad_line = TracesAsked calls asked s bad_line
   GivesWhole (steps sizes) s bad_line = StepsSized sizes s bad_line
   GivesWhole (otlp export given) s bad_line = ExportsAsked calls export given s bad_line
-  GivesWhole (picture asked form) s bad_line = DrawsAsked calls asked (paints form) s bad_line
+  GivesWhole (picture asked form) s bad_line = DrawsAsked calls asked (paints form) (HasSpan bad_line) s bad_line
+
+  -- the same of a mode that draws, where there is no span to draw
+  abbrev pub GivesEmpty : PlainMode → Streams → Type 0
+  GivesEmpty (trace asked) s = ⊥
+  GivesEmpty (steps sizes) s = ⊥
+  GivesEmpty (otlp export given) s = ⊥
+  GivesEmpty (picture asked form) s = DrawsAsked calls asked (paints form) HasNoSpan s None
 
   -- the output was given a beginning of that
   abbrev pub GivesBeginning : PlainMode → Streams → Type 0
@@ -147,9 +155,10 @@ module _ {C D E : Type 0} (calls : Calls (MemoryProcessor C D) (SamplerOf E) (Li
 
   -- what a run of a mode did, by how it ended
   abbrev pub RunsTo : PlainMode → Streams → RunEnd → Type 0
-  RunsTo mode s end = EndsAs (reads_commands mode) (GivesWhole mode s) (GivesBeginning mode s) s end
+  RunsTo mode s end =
+      EndsAs (reads_commands mode) (GivesWhole mode s) (GivesEmpty mode s) (GivesBeginning mode s) s end
 
-  -- a run of a mode, by its status, and by what is said of the faults where it has none and where it has one
+  -- a run of a mode, by its status, and by what is said on the stream of faults: nothing, or a text
   abbrev pub Runs : PlainMode → Streams → Type 0 → (List ℕ → Type 0) → ℕ → Type 0
-  Runs mode s Silent Says status = EndsWith (reads_commands mode) (GivesWhole mode s) (GivesBeginning mode s) Silent
-      (says_reasons mode) Says s status
+  Runs mode s Silent Says status = EndsWith (reads_commands mode) (GivesWhole mode s) (GivesEmpty mode s)
+      (GivesBeginning mode s) Silent (says_reasons mode) Says s status

@@ -40,8 +40,8 @@ StepsBegun sizes s = StepsSome (machine_of sizes) s
 
 -- what stepping a batch queue from here to there did, by how it ended, whatever its exporter lost
 abbrev pub StepsOn : Machine StoredBatches → Machine StoredBatches → Streams → RunEnd → Type 0
-StepsOn start after s end = EndsAs false (StepsTo start after s) (StepsSome start s) s end
+StepsOn start after s end = EndsAs false (StepsTo start after s) ⊥ (StepsSome start s) s end
 
 -- what a run over a batch queue did, by how it ended
 abbrev pub Steps : Machine StoredBatches → Streams → RunEnd → Type 0
-Steps start s end = EndsAs false (StepsAll start s) (StepsSome start s) s end
+Steps start s end = EndsAs false (StepsAll start s) ⊥ (StepsSome start s) s end

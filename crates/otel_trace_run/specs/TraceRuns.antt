@@ -81,11 +81,11 @@ module _ {P S G : Type 0} (calls : Calls P S G) (form : Form) where
 
   -- what a session did, by how it ended
   abbrev pub Traces : SessionState P S G → Streams → RunEnd → Type 0
-  Traces begun s end = EndsAs true (TracesAll begun s) (TracesSome begun s) s end
+  Traces begun s end = EndsAs true (TracesAll begun s) ⊥ (TracesSome begun s) s end
 
   -- what a session under a provider did
   abbrev pub TracesUnder : ProviderState P S G → Streams → RunEnd → Type 0
-  TracesUnder provider s end = EndsAs true (TracesWhole provider s) (TracesBegun provider s) s end
+  TracesUnder provider s end = EndsAs true (TracesWhole provider s) ⊥ (TracesBegun provider s) s end
 
   -- a piece was fed to a session; of the text of its replies the output was given what Written says
   pub record FeedsPiece {T : Type 0} (old : SessionState P S G) (piece : List ℕ) (fed : Result T FeedError)
@@ -108,5 +108,6 @@ module _ {P S G : Type 0} (calls : Calls P S G) (form : Form) where
   -- what feeding the pieces did, by how it ended: where it failed, all replies to a beginning were written
   abbrev pub FedAs : SessionState P S G → SessionState P S G → Streams → RunEnd → Type 0
   FedAs begun now s ends.Done = FeedsPieces begun now s None × IsAtEnd s.input_after
+  FedAs begun now s ends.Empty = ⊥
   FedAs begun now s (ends.BadLine line reason) = FeedsPieces begun now s (Some line) × WhyBad true s.input line reason
   FedAs begun now s ends.Failed = CarriesOutSome begun s.input (Appends s.output s.output_after)

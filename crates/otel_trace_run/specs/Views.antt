@@ -18,7 +18,7 @@ use Rattle.otel_picture.specs.Summaries.{summary_text}
 use Rattle.otel_picture.specs.Traces.{PlainTrace}
 use Rattle.otel_shown.specs.Shown.{PlainShownSpan}
 use Rattle.otel_trace_run.specs.Paintings.{picture_of}
-use Rattle.otel_trace_run.specs.Streams.{AreAll, Streams}
+use Rattle.otel_trace_run.specs.Streams.{AreAll, Streams, no_spans_text}
 use Rattle.otel_trace_run.specs.declared.asked_view.View.{View}
 use Rattle.otel_trace_run.specs.declared.asked_view.ViewForm.{ViewForm}
 use Rattle.otel_trace_run.specs.declared.asked_view.ViewForm.TheVariants as views
@@ -91,7 +91,7 @@ spanless_line count =
 
 -- that nothing is drawn, and why
 abbrev pub found_line : Found → List ℕ
-found_line founds.NoSpan = codes "no spans to draw\n"
+found_line founds.NoSpan = no_spans_text
 found_line founds.NoTrace = codes "no such trace\n"
 found_line founds.Traces = []
 

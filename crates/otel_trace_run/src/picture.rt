@@ -1,13 +1,13 @@
 //! The modes `picture` and `svg`: at the end of the input all spans that a session exported over it are drawn, and no
 //! reply is written. So these modes hold the input and its spans, and their memory grows with both.
 
-ghost use Rattle.std.specs.Prelude.{◌≡◌, ◌++◌, [], IfOk, IfSome, OnOk, List, ℕ, map, true};
+ghost use Rattle.std.specs.Prelude.{◌≡◌, ◌++◌, IfOk, IfSome, OnOk, List, ℕ, map, true};
 ghost use Rattle.otel_export.specs.PlainSpanData.{PlainSpanData, spans_in};
 ghost use Rattle.otel_shown.specs.Shown.{no_resource, shown_span};
 ghost use Rattle.otel_trace_lines.specs.Commands.{plain_commands};
 ghost use Rattle.otel_picture.specs.Drawn.{plain_traces};
 ghost use Rattle.otel_trace_run.specs.Paintings.{picture_of};
-ghost use Rattle.otel_trace_run.specs.PictureRuns.{DrawsLines, DrawsUnder};
+ghost use Rattle.otel_trace_run.specs.PictureRuns.{DrawsLines, DrawsUnder, end_of};
 ghost use Rattle.otel_trace_run.specs.PictureRuns.{ReadsScript, RunsOut, RunsShutdown, says_shut};
 ghost use Rattle.otel_trace_run.specs.Streams.{WhyBad, streams_of};
 ghost use Rattle.otel_trace_session.specs.Shown.{exported_in};
@@ -87,12 +87,11 @@ pub fn shown_spans(alloc: Global, spans: Vec<SpanData>) -> Result<Vec<ShownSpan>
     Ok(shown)
 }
 
-/// What was drawn of an input, and its first bad line, from 1 and with empty lines counted.
+/// What was drawn of an input, and how the run ends that writes it.
 #[derive(Drop)]
 struct Drawn {
     picture: Vec<u8>,
-    bad_line: Option<u64>,
-    reason: Option<Reason>,
+    end: RunEnd,
 }
 
 /// Carries out the lines of an input by one session under a provider, and writes the picture of all spans that it
@@ -134,10 +133,7 @@ pub(crate) fn draw_input<
     let Ok(()) = write_whole(output, &drawn.picture) else {
         return RunEnd::Failed;
     };
-    match drawn.bad_line {
-        None => RunEnd::Done,
-        Some(line) => RunEnd::BadLine(line, drawn.reason),
-    }
+    drawn.end
 }
 
 /// Carries out the lines of an input, up to the first bad one, and a shutdown after them, and draws the spans that
@@ -149,17 +145,25 @@ fn draw_lines<P: KeepsBatches, S: ShouldSample, G: GivesIds, D: SpanPainter, R: 
     input: &mut R,
 ) -> Option<Drawn>
     ensures { IfSome result (λ drawn. DrawsLines ⟦<ProviderOf<P, S, G> as Provides>⟧.calls (D.paints painter.now)
-        session.old (R.remaining input.old) (R.remaining input.new) drawn.bad_line drawn.picture.items session.new ×
-        IfSome drawn.bad_line (λ line. WhyBad true (R.remaining input.old) line drawn.reason)) }
+        session.old (R.remaining input.old) (R.remaining input.new) drawn.end drawn.picture.items session.new) }
 {
     let (script, reason) = read_script(alloc, input).ok()?;
     let spans = exported_by(alloc, session, script.commands)?;
+    let end = end_of(script.bad_line, reason, &spans);
     let picture = painter.paint(alloc, spans).ok()?;
-    Some(Drawn {
-        picture,
-        bad_line: script.bad_line,
-        reason,
-    })
+    Some(Drawn { picture, end })
+}
+
+/// How a run ends of whose input these spans are drawn: those of its lines up to the first bad one, which is bad for
+/// this reason.
+fn end_of(bad_line: Option<u64>, reason: Option<Reason>, spans: &[SpanData]) -> RunEnd
+    ensures { result ≡ end_of bad_line reason spans.now }
+{
+    match bad_line {
+        Some(line) => RunEnd::BadLine(line, reason),
+        None if spans.is_empty() => RunEnd::Empty,
+        None => RunEnd::Done,
+    }
 }
 
 /// Reads an input to its end, and the commands of its lines, and why the first bad one is.

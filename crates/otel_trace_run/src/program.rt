@@ -38,13 +38,16 @@ pub(crate) const FAILED: u8 = 1;
 /// The exit status of a bad line or of wrong arguments.
 pub(crate) const REFUSED: u8 = 2;
 
+/// What is said where there is no span to draw.
+pub(crate) const NO_SPANS: &str = "no spans to draw\n";
+
 /// Runs the program over any reader and writers, and answers its exit status: 0 at the end of the input; 2 for a bad
 /// line or wrong arguments; 1 where reading, writing or the closing fails, memory is missing or a batch was lost, also
 /// where 2 would be due. `words` are the arguments without the program's name; wrong ones are found before anything is
 /// read. Lines are answered as they come: what answers them is written and sent on before more is read, and a run of
 /// status 1 has written a beginning of what one of status 0 writes. After a bad line nothing is read. A picture is
 /// written at the end of the input, which is read to that whatever its lines are. A view draws the lines that read, and
-/// names the others.
+/// names the others. Where there is no span to draw, that is said.
 pub fn run_program<R: Read, W: Write, F: Write>(
     alloc: Global,
     words: &[String],
@@ -85,7 +88,7 @@ fn start_mode<R: Read, W: Write, F: Write>(
     status_of(alloc, end, says_reasons, faults)
 }
 
-/// Writes a text that was asked for, and answers the status for it.
+/// Writes a text, and answers the status for it.
 fn show<W: Write>(text: &str, output: &mut W) -> u8
     ensures { ShowsText (W.contents output.old) (W.contents output.new) text.now result }
 {
@@ -168,13 +171,14 @@ fn run_picture<R: Read, W: Write>(
     }
 }
 
-/// Names a bad line, and answers the status for how a run ended.
+/// Says what was wrong with an input, or that there was no span to draw, and answers the status for how a run ended.
 fn status_of<F: Write>(alloc: Global, end: RunEnd, says_reasons: bool, faults: &mut F) -> u8
     ensures { Reports end says_reasons
         (faults.new ≡ faults.old) (Appends (F.contents faults.old) (F.contents faults.new)) result }
 {
     match end {
         RunEnd::Done => DONE,
+        RunEnd::Empty => show(NO_SPANS, faults),
         RunEnd::BadLine(line, reason) if says_reasons => name_reason(alloc, line, reason, faults),
         RunEnd::BadLine(line, _) => name_bad_line(alloc, line, faults),
         RunEnd::Failed => FAILED,

@@ -11,7 +11,7 @@ ghost use Rattle.otel_trace_run.specs.Views.{fault_line, fault_lines, found_in, 
 ghost use Rattle.otel_trace_run.specs.Views.{place_text, spanless_line};
 
 use crate::asked_view::{View, ViewForm};
-use crate::program::{DONE, FAILED, REFUSED};
+use crate::program::{DONE, FAILED, NO_SPANS, REFUSED};
 use otel_export::stream::write_whole;
 use otel_otlp_read::{ItemList, ItemPlace, LineFault, read_text};
 use otel_picture::traces::Traces;
@@ -209,7 +209,7 @@ fn push_found(said: &mut String, found: Found) -> Result<(), AllocError>
     ensures { OnOk result (TextGrows said.old (found_line found) said.new) }
 {
     match found {
-        Found::NoSpan => said.push_str("no spans to draw\n"),
+        Found::NoSpan => said.push_str(NO_SPANS),
         Found::NoTrace => said.push_str("no such trace\n"),
         Found::Traces => Ok(()),
     }
