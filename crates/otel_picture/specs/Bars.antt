@@ -1,7 +1,7 @@
 -- Where moments stand in a picture, and how long a span was by itself.
 use Rattle.std.specs.Prelude.{◌≡◌, ◌<◌, ◌≤◌, ◌-◌, ◌+◌, ◌*◌, ◌/◌, ◌==◌, ℕ, suc, List, [], ◌∷◌, drop, get_or, length}
 use Rattle.std.specs.Prelude.{max, min, nat_le, if◌then◌else◌}
-use Rattle.otel_picture.specs.Orders.{mark_at, start_at}
+use Rattle.otel_picture.specs.Orders.{mark_at}
 use Rattle.otel_picture.specs.declared.bar.Sweep.{Sweep}
 use Rattle.otel_picture.specs.declared.rows.Mark.{Mark}
 use Rattle.otel_picture.specs.declared.rows.Row.{Row}
@@ -11,22 +11,27 @@ abbrev pub column : (first last columns moment : ℕ) → ℕ
 column first last columns moment =
     if first == last then 0 else min (columns - 1) ((moment - first) * columns / (last - first))
 
--- the earliest of a moment and the starts of marks
+-- the earlier of two starts, of which zero says that there is none
+abbrev pub earlier : ℕ → ℕ → ℕ
+earlier moment start = if start == 0 then moment else (if moment == 0 then start else min moment start)
+
+-- the earliest of a start and those of marks
 abbrev pub earliest : ℕ → List Mark → ℕ
 earliest moment [] = moment
-earliest moment (mark ∷ marks) = earliest (min moment mark.start) marks
+earliest moment (mark ∷ marks) = earliest (earlier moment mark.start) marks
 
 -- the latest of a moment and the starts and ends of marks
 abbrev pub latest : ℕ → List Mark → ℕ
 latest moment [] = moment
 latest moment (mark ∷ marks) = latest (max (max moment mark.start) mark.end) marks
 
--- the first moment of a trace, and the last
-abbrev pub first_of : List Mark → ℕ
-first_of marks = earliest (start_at marks 0) marks
-
+-- the last moment of a trace
 abbrev pub last_of : List Mark → ℕ
-last_of marks = latest (start_at marks 0) marks
+last_of marks = latest 0 marks
+
+-- the first: the earliest start. Where no span has one, it is the last
+abbrev pub first_of : List Mark → ℕ
+first_of marks = if earliest 0 marks == 0 then last_of marks else earliest 0 marks
 
 -- how long a span was
 abbrev pub length_of : Mark → ℕ

@@ -1,3 +1,4 @@
+pub mod Axes
 pub mod Bars
 pub mod Choices
 pub mod Dates

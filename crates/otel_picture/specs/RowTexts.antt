@@ -8,10 +8,12 @@ use Rattle.opentelemetry.specs.Plain.{PlainStatus, unset, error, ok}
 use Rattle.opentelemetry.specs.declared.trace.span_kind.SpanKind.{SpanKind}
 use Rattle.opentelemetry.specs.declared.trace.span_kind.SpanKind.TheVariants as kinds
 use Rattle.otel_shown.specs.Shown.{PlainShownEvent, PlainShownSpan}
+use Rattle.otel_picture.specs.Axes.{axis_text}
 use Rattle.otel_picture.specs.Bars.{length_of, self_time}
 use Rattle.otel_picture.specs.Details.{details_text}
 use Rattle.otel_picture.specs.Durations.{duration_text}
 use Rattle.otel_picture.specs.Drawn.{PlainTraces}
+use Rattle.otel_picture.specs.Families.{begin_of}
 use Rattle.otel_picture.specs.Layouts.{layout_with}
 use Rattle.otel_picture.specs.Odd.{odd_of, odd_text}
 use Rattle.otel_picture.specs.PlainSheets.{PlainSheet, errors_in, first_service, is_error, is_orphan, row_mark}
@@ -67,8 +69,8 @@ module _ (sheet : PlainSheet) where
   abbrev pub cell_text : PlainShownSpan → ℕ → List ℕ
   cell_text span place =
       if happens_in span.events place then encode_utf8 183 else
-      (if nat_le (sheet_column sheet span.start_time) place
-      && nat_le place (sheet_column sheet (max span.start_time span.end_time)) then codes "=" else codes " ")
+      (if nat_le (sheet_column sheet (begin_of span)) place
+      && nat_le place (sheet_column sheet (max (begin_of span) span.end_time)) then codes "=" else codes " ")
 
   -- so many columns of a span's bar
   abbrev pub cells_text : PlainShownSpan → ℕ → List ℕ
@@ -143,26 +145,6 @@ module _ (sheet : PlainSheet) where
   head_text =
       title_text ++ (duration_text (sheet.last - sheet.first)
       ++ (errors_text (errors_in sheet) ++ codes "\n"))
-
--- how many ticks an axis of so many columns has
-abbrev pub ticks_in : ℕ → ℕ
-ticks_in columns = max 3 (min 8 (columns / 12))
-
--- a tick, and the moment where it stands, if there is room: so many columns from the left of an axis
-abbrev pub tick_text : (duration columns cell place : ℕ) → List ℕ
-tick_text duration columns cell place =
-    in_room cell (if nat_le 9 cell then codes "|" ++ duration_text (duration * place / columns) else codes "|")
-
-abbrev pub ticks_text : (duration columns cell count : ℕ) → List ℕ
-ticks_text duration columns cell zero = []
-ticks_text duration columns cell (suc count) =
-    ticks_text duration columns cell count ++ tick_text duration columns cell (count * cell)
-
--- the axis of bars
-abbrev pub axis_text : (duration columns : ℕ) → List ℕ
-axis_text duration columns =
-    let cell : ℕ = columns / ticks_in columns in
-    ticks_text duration columns cell (ticks_in columns) ++ times (columns - ticks_in columns * cell) 32
 
 -- what the numbers are
 abbrev pub legend_text : Layout → List ℕ

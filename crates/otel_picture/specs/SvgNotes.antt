@@ -37,7 +37,8 @@ unfoldable pub odd_notes : (indent : ℕ) → Odd → List ℕ
 odd_notes indent odd =
     odd_note indent odd.no_start (codes "no start") ++ (odd_note indent odd.no_end (codes "no end")
     ++ (odd_note indent odd.is_backward (codes "ends before it starts")
-    ++ odd_note indent odd.in_circle (codes "in a circle of parents")))
+    ++ (odd_note indent odd.in_circle (codes "in a circle of parents")
+    ++ odd_note indent odd.comes_again (codes "has the id of a span before it"))))
 
 -- those of a span
 unfoldable pub notes_text : (indent : ℕ) → Odd → PlainShownSpan → List ℕ

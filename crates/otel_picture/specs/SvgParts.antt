@@ -22,6 +22,12 @@ label_svg x y text =
     codes "<text x=\"" ++ (decimal x ++ (codes "\" y=\"" ++ (decimal y
     ++ (codes "\" xml:space=\"preserve\">" ++ (escaped_text (chars text) ++ codes "</text>")))))
 
+-- a text that ends at a place
+unfoldable pub end_label_svg : (x y : ℕ) → List ℕ → List ℕ
+end_label_svg x y text =
+    codes "<text class=\"end\" x=\"" ++ (decimal x ++ (codes "\" y=\"" ++ (decimal y
+    ++ (codes "\" xml:space=\"preserve\">" ++ (escaped_text (chars text) ++ codes "</text>")))))
+
 -- what a reader is shown over what stands around it
 unfoldable pub title_svg : List ℕ → List ℕ
 title_svg text = codes "<title>" ++ (escaped_text (chars text) ++ codes "</title>")
@@ -68,7 +74,7 @@ unfoldable pub style_text : List ℕ
 style_text =
     codes "<style>text{font:12px monospace;fill:#1b1b1b}.page{fill:#ffffff}.tick{stroke:#c9c9c9}.event{stroke:#1b1b1b;"
     ++ codes "stroke-width:2}.s0{fill:#1f5fa8}.s1{fill:#2f7d32}.s2{fill:#8a4fb0}.s3{fill:#b06a00}.s4{fill:#00798c}"
-    ++ codes ".s5{fill:#6b6b00}.s6{fill:#ad1f6b}.s7{fill:#4a5a78}"
+    ++ codes ".s5{fill:#6b6b00}.s6{fill:#ad1f6b}.s7{fill:#4a5a78}.end{text-anchor:end}"
     ++ codes ".error{fill-opacity:.25;stroke:#1b1b1b;stroke-width:2}.sign{fill:#c0160d;font-weight:bold}"
     ++ codes "@media (prefers-color-scheme:dark){text{fill:#eeeeee}.page{fill:#121212}.tick{stroke:#444444}"
     ++ codes ".event{stroke:#eeeeee}.s0{fill:#7fb4f0}.s1{fill:#7fcf85}.s2{fill:#c9a0e8}.s3{fill:#f0b860}"

@@ -4,16 +4,18 @@ use Rattle.std.specs.Prelude.{codes, decimal, if◌then◌else◌, length, max, 
 use Rattle.std.specs.List.{flat_map}
 use Rattle.opentelemetry.specs.Plain.{PlainStatus, unset, error, ok}
 use Rattle.otel_shown.specs.Shown.{PlainShownEvent, PlainShownLink, PlainShownSpan}
+use Rattle.otel_picture.specs.Axes.{axis_svg}
 use Rattle.otel_picture.specs.Bars.{length_of}
 use Rattle.otel_picture.specs.Details.{link_text}
 use Rattle.otel_picture.specs.Durations.{duration_text}
 use Rattle.otel_picture.specs.Drawn.{PlainTraces}
+use Rattle.otel_picture.specs.Families.{begin_of}
 use Rattle.otel_picture.specs.Layouts.{svg_layout}
 use Rattle.otel_picture.specs.RowTexts.{errors_text, kind_text, label_text, service_text, title_text}
 use Rattle.otel_picture.specs.PlainSheets.{PlainSheet, errors_in, is_error, is_orphan, row_mark, row_span, sheet_column}
 use Rattle.otel_picture.specs.PlainSheets.{sheet_of}
 use Rattle.otel_picture.specs.SvgNotes.{level_indent, line_after_row, line_after_rows, svg_notes}
-use Rattle.otel_picture.specs.SvgParts.{down, when_text, label_svg, line_after, line_svg, mark_svg, page_svg, place_svg}
+use Rattle.otel_picture.specs.SvgParts.{down, when_text, label_svg, line_after, mark_svg, page_svg, place_svg}
 use Rattle.otel_picture.specs.SvgParts.{root_svg, sign_svg, style_text, title_svg}
 use Rattle.otel_picture.specs.Texts.{cut_text, shown_text}
 use Rattle.otel_picture.specs.Traces.{PlainTrace}
@@ -87,8 +89,8 @@ module _ (sheet : PlainSheet) where
   -- the bar of a span, from the column of its start to that of its end
   abbrev pub svg_bar : (line : ℕ) → PlainShownSpan → List ℕ
   svg_bar line span =
-      let begin : ℕ = sheet_column sheet span.start_time in
-      let end : ℕ = sheet_column sheet (max span.start_time span.end_time) in
+      let begin : ℕ = sheet_column sheet (begin_of span) in
+      let end : ℕ = sheet_column sheet (max (begin_of span) span.end_time) in
       codes "<rect class=\"" ++ (class_text span ++ place_svg (310 + begin) (down line 4) (end - begin + 1))
 
   -- offset, length, and what went wrong
@@ -103,7 +105,7 @@ module _ (sheet : PlainSheet) where
 
   -- the sign in front of a bar, if the span failed
   abbrev pub svg_sign : (line : ℕ) → PlainShownSpan → List ℕ
-  svg_sign line span = sign_at (298 + sheet_column sheet span.start_time) (down line 15) span.status
+  svg_sign line span = sign_at (298 + sheet_column sheet (begin_of span)) (down line 15) span.status
 
   -- what a line shows of a span, but its title
   abbrev pub svg_shapes : (line : ℕ) → Row → List ℕ
@@ -121,23 +123,14 @@ module _ (sheet : PlainSheet) where
   svg_rows line [] = []
   svg_rows line (row ∷ rows) = svg_row line row ++ svg_rows (line_after_row sheet line row) rows
 
-  -- a tick of the axis: a line over all rows, and the moment where it stands
-  abbrev pub svg_tick : (line end : ℕ) → (place : ℕ) → List ℕ
-  svg_tick line end place =
-      line_svg (310 + place) (down line 6) (down end 0)
-      ++ label_svg (313 + place) (down line 15) (duration_text ((sheet.last - sheet.first) * place / 460))
-
-  -- four ticks
-  abbrev pub svg_ticks : (line end : ℕ) → List ℕ
-  svg_ticks line end =
-      svg_tick line end 0 ++ (svg_tick line end 115 ++ (svg_tick line end 230 ++ (svg_tick line end 345 ++ codes "\n")))
-
   -- on the line after a head the service, where all spans have one, and the ticks
   abbrev pub svg_service : (line : ℕ) → List ℕ
   svg_service line = label_svg 10 (down (line_after line 1) 15) (cut_text 40 (service_text sheet))
 
   abbrev pub svg_axis : (line : ℕ) → List ℕ
-  svg_axis line = svg_ticks (line_after line 1) (line_after_rows sheet (line_after line 2) sheet.trace.rows)
+  svg_axis line =
+      axis_svg (sheet.last - sheet.first) (line_after line 1)
+      (line_after_rows sheet (line_after line 2) sheet.trace.rows)
 
   -- after those a line a span
   abbrev pub svg_lines : (line : ℕ) → List ℕ

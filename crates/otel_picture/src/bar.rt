@@ -6,6 +6,7 @@ ghost use Rattle.otel_picture.specs.Bars.{
   AreSelfTimes,
   EndsAt,
   column,
+  earlier,
   first_of,
   last_of,
   self_time,
@@ -36,25 +37,36 @@ pub struct Bar {
     ghost covers_one: { begin ≤ end },
 }
 
+/// The earlier of two starts, of which zero says that there is none.
+fn earlier(moment: u64, start: u64) -> u64
+    ensures { result ≡ earlier moment start }
+{
+    if start == 0 {
+        moment
+    } else if moment == 0 {
+        start
+    } else {
+        moment.min(start)
+    }
+}
+
 impl Scale {
-    /// The scale of a trace's spans, from their first start to their last end, for bars in so many columns.
+    /// The scale of a trace's spans, from their first start to their last end, for bars in so many columns. Where no
+    /// span has a start it is of one moment.
     pub(crate) fn of(marks: &[Mark], columns: u32) -> Scale
         requires { 0 < columns }
         ensures first { result.first ≡ first_of marks.now }
         ensures last { result.last ≡ last_of marks.now }
         ensures columns { result.columns ≡ columns }
     {
-        let mut first = match marks.first() {
-            Some(mark) => mark.start,
-            None => 0,
-        };
-        let mut last = first;
+        let mut first = 0;
+        let mut last = 0;
         for mark in marks {
-            first = first.min(mark.start);
+            first = earlier(first, mark.start);
             last = last.max(mark.start).max(mark.end);
         }
         Scale {
-            first,
+            first: if first == 0 { last } else { first },
             last,
             columns,
         }

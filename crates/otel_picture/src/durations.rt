@@ -9,15 +9,15 @@ ghost use Rattle.otel_picture.specs.Durations.{shown_duration, step_of};
 use std::alloc::AllocError;
 use std::fmt::Write;
 
-const SECOND: u64 = 1_000_000_000;
+pub(crate) const SECOND: u64 = 1_000_000_000;
 
-const MINUTE: u64 = 60 * SECOND;
+pub(crate) const MINUTE: u64 = 60 * SECOND;
 
-const HOUR: u64 = 60 * MINUTE;
+pub(crate) const HOUR: u64 = 60 * MINUTE;
 
-const DAY: u64 = 24 * HOUR;
+pub(crate) const DAY: u64 = 24 * HOUR;
 
-const YEAR: u64 = 365 * DAY;
+pub(crate) const YEAR: u64 = 365 * DAY;
 
 /// How many nanoseconds one unit of the last digit is that is shown of a duration.
 fn step_of(nanoseconds: u64) -> u64

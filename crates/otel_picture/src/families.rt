@@ -7,7 +7,16 @@ ghost use Rattle.std.specs.Prelude.{◌≡◌, ◌<◌, ◌==◌, ℕ, None, Som
 ghost use Rattle.std.specs.Prelude.{unwrap_or};
 ghost use Rattle.std.specs.BTreeMap.{get};
 ghost use Rattle.std.specs.Ordering.{nat_cmp};
-ghost use Rattle.otel_picture.specs.Families.{mark_of, marks_at, parents_in, trace_ids};
+ghost use Rattle.otel_picture.specs.Families.{
+  AreRepeats,
+  begin_of,
+  comes_again,
+  first_with,
+  mark_of,
+  marks_at,
+  parents_in,
+  trace_ids,
+};
 ghost use Rattle.otel_picture.specs.Groups.{AreGroups, IsAdded};
 
 use crate::rows::{Family, Mark};
@@ -76,6 +85,17 @@ pub(crate) fn groups_of(alloc: Global, spans: &[ShownSpan]) -> Result<Vec<Group>
     Ok(groups)
 }
 
+/// Where a span's bar begins: at its start, or at its end where it has no start.
+pub(crate) fn begin_of(span: &ShownSpan) -> u64
+    ensures { result ≡ begin_of span.now }
+{
+    if span.start_time.0 == 0 {
+        span.end_time.0
+    } else {
+        span.start_time.0
+    }
+}
+
 fn mark_of(place: usize, span: &ShownSpan) -> Mark
     ensures { result ≡ mark_of place span.now }
 {
@@ -83,7 +103,7 @@ fn mark_of(place: usize, span: &ShownSpan) -> Mark
         place,
         id: span.span_id,
         parent: span.parent_span_id,
-        start: span.start_time.0,
+        start: begin_of(span),
         end: span.end_time.0,
     }
 }
@@ -101,7 +121,7 @@ fn marks_of(alloc: Global, spans: &[ShownSpan], places: &[usize]) -> Result<Vec<
 
 /// The first span of each id.
 fn first_of_ids(alloc: Global, marks: &[Mark]) -> Result<BTreeMap<SpanId, usize>, AllocError>
-    ensures { IfOk result (λ spans. (id : ℕ) → get nat_cmp spans id ≡ position (λ mark. mark.id == id) marks.now) }
+    ensures { IfOk result (λ spans. (id : ℕ) → get nat_cmp spans id ≡ first_with marks.now id) }
 {
     let mut spans = BTreeMap::new(alloc);
     for span in 0..marks.len() {
@@ -113,6 +133,13 @@ fn first_of_ids(alloc: Global, marks: &[Mark]) -> Result<BTreeMap<SpanId, usize>
     Ok(spans)
 }
 
+/// The span of an id.
+fn found_in(spans: &BTreeMap<SpanId, usize>, id: SpanId) -> Option<usize>
+    ensures { result ≡ get nat_cmp spans.now id }
+{
+    spans.get(&id).copied()
+}
+
 /// The parent of a span: the first one of the id, if there is one.
 fn parent_of(spans: &BTreeMap<SpanId, usize>, mark: Mark) -> Option<usize>
     ensures { result ≡ (if mark.parent == 0 then None else get nat_cmp spans.now mark.parent) }
@@ -120,19 +147,50 @@ fn parent_of(spans: &BTreeMap<SpanId, usize>, mark: Mark) -> Option<usize>
     if mark.parent == SpanId::INVALID {
         None
     } else {
-        spans.get(&mark.parent).copied()
+        found_in(spans, mark.parent)
     }
 }
 
-fn parents_of(alloc: Global, marks: &[Mark]) -> Result<Vec<Option<usize>>, AllocError>
+/// The parent of each span, by the first span of each id.
+fn parents_of(
+    alloc: Global,
+    spans: &BTreeMap<SpanId, usize>,
+    marks: &[Mark],
+) -> Result<Vec<Option<usize>>, AllocError>
+    requires { (id : ℕ) → get nat_cmp spans.now id ≡ first_with marks.now id }
     ensures { IfOk result (λ parents. parents.items ≡ parents_in marks.now) }
 {
-    let spans = first_of_ids(alloc, marks)?;
     let mut parents = Vec::with_capacity(alloc, marks.len())?;
     for mark in marks {
-        parents.push(parent_of(&spans, *mark))?;
+        parents.push(parent_of(spans, *mark))?;
     }
     Ok(parents)
+}
+
+/// Whether a span has the id of one before it, by the first span of each id.
+fn comes_again(spans: &BTreeMap<SpanId, usize>, marks: &[Mark], span: usize) -> bool
+    requires here { span < length marks.now }
+    requires first { (id : ℕ) → get nat_cmp spans.now id ≡ first_with marks.now id }
+    ensures { result ≡ comes_again marks.now span }
+{
+    let first = found_in(spans, marks[span].id);
+    first.unwrap_or(span) < span
+}
+
+/// The same of each span.
+fn repeats_of(
+    alloc: Global,
+    spans: &BTreeMap<SpanId, usize>,
+    marks: &[Mark],
+) -> Result<Vec<bool>, AllocError>
+    requires { (id : ℕ) → get nat_cmp spans.now id ≡ first_with marks.now id }
+    ensures { IfOk result (λ repeats. AreRepeats marks.now repeats.items) }
+{
+    let mut repeats = vec![in alloc; false; marks.len()]?;
+    for span in 0..marks.len() {
+        repeats[span] = comes_again(spans, marks, span);
+    }
+    Ok(repeats)
 }
 
 /// The spans of a trace, which stand at these places.
@@ -145,6 +203,12 @@ pub(crate) fn family_of(
     ensures { IfOk result (λ family. family.marks.items ≡ marks_at spans.now places.now) }
 {
     let marks = marks_of(alloc, spans, places)?;
-    let parents = parents_of(alloc, &marks)?;
-    Ok(Family { marks, parents })
+    let first = first_of_ids(alloc, &marks)?;
+    let parents = parents_of(alloc, &first, &marks)?;
+    let repeats = repeats_of(alloc, &first, &marks)?;
+    Ok(Family {
+        marks,
+        parents,
+        repeats,
+    })
 }

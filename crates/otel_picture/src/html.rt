@@ -28,9 +28,9 @@ pub(crate) const BEGIN: &str = r#"<!doctype html>
 <head>
 <meta charset="utf-8">
 <meta http-equiv="Content-Security-Policy" content="default-src 'none'; base-uri 'none'; form-action 'none';
-style-src 'sha256-xorSe1wgHvOaXJcK1Kx0bo87gQO5XXdzGX5ymfr0370=';
-script-src 'sha256-vS+4Co5E/25+MFvf7BoeJ/M2rftv27b7AMqR43Awq/I='
-'sha256-WbvDgJzwR5lLoKjMSMQ9KHkttziXoj9XM+bom4Hk46E='">
+style-src 'sha256-DP1cieI82aKbuKQP+tUMZkR1wf5dQPTjZMASAn4MsKA=';
+script-src 'sha256-GivymzAxRcduyuRsCuJD4eb97alee67ji/w+O4fCo+I='
+'sha256-YOBpOTOnfiegMXZOF8jmAFLuLsxs9By6Y/Lj3QJ2Dxc='">
 <meta name="referrer" content="no-referrer">
 <meta name="viewport" content="width=device-width, initial-scale=1">
 <title>Traces</title>

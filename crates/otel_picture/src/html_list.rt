@@ -21,6 +21,13 @@ const make = (tag, name, text) => {
 const UNITS = [[86400e9, 'd', 3600e9, 'h'], [3600e9, 'h', 60e9, 'm'], [60e9, 'm', 1e9, 's']];
 const PARTS = [[1e9, 's'], [1e6, 'ms'], [1e3, 'us']];
 
+// Round durations, from the shortest on.
+const COUNTS = [1, 2, 5, 10, 20, 50, 100, 200, 500];
+const SIXTIETHS = [1, 2, 5, 10, 20, 30];
+const ROUND = [[1, COUNTS], [1e3, COUNTS], [1e6, COUNTS], [1e9, SIXTIETHS], [60e9, SIXTIETHS], [3600e9, [1, 2, 6, 12]],
+  [86400e9, [1, 2, 5, 10, 20, 50, 100, 200]], [31536000e9, COUNTS]];
+const STEPS = ROUND.flatMap(([unit, counts]) => counts.map((count) => count * unit));
+
 // Nanoseconds in the unit that fits, cut to four digits.
 const duration = (count) => {
   for (const [size, unit, part, letter] of UNITS) {

@@ -51,6 +51,7 @@ main { flex: 1; min-height: 0; display: flex; flex-direction: column; }
 .bar.fault { outline: 2px solid var(--fault); }
 .mark { position: absolute; top: 3px; width: 2px; height: 18px; background: var(--text); }
 .tick { position: absolute; top: 0; bottom: 0; padding-left: 3px; border-left: 1px solid var(--edge); }
+.end { right: 0; padding: 0 3px 0 0; border-left: 0; border-right: 1px solid var(--edge); }
 .drag { position: absolute; top: 0; bottom: 0; background: var(--s0); opacity: 0.25; pointer-events: none; }
 .s0 { background: var(--s0); } .s1 { background: var(--s1); } .s2 { background: var(--s2); }
 .s3 { background: var(--s3); } .s4 { background: var(--s4); } .s5 { background: var(--s5); }

@@ -92,14 +92,24 @@ const reveal = (place) => {
   refold(place);
 };
 
+// Ticks at round durations, as far as their labels have room before that of the end.
+const ticks = () => {
+  const made = [];
+  const step = STEPS.find((it) => it > (zoom[1] - zoom[0]) / 5) ?? STEPS.at(-1);
+  const first = Math.ceil(zoom[0] / step);
+  for (let i = 0; i < 8 && share((first + i) * step) <= 80; i += 1) {
+    const after = (first + i) * step;
+    const tick = make('div', 'tick', duration(after));
+    tick.style.left = share(after) + '%';
+    made.push(tick);
+  }
+  return made;
+};
+
 const zoomTo = (from, to) => {
   zoom = [Math.max(0, Math.min(from, total - 1)), Math.max(1, Math.min(total, to))];
   if (zoom[1] - zoom[0] < 1) zoom[1] = zoom[0] + 1;
-  at('axis').replaceChildren(...[0, 25, 50, 75].map((percent) => {
-    const tick = make('div', 'tick', duration(Math.floor(zoom[0] + ((zoom[1] - zoom[0]) * percent) / 100)));
-    tick.style.left = percent + '%';
-    return tick;
-  }));
+  at('axis').replaceChildren(...ticks(), make('div', 'tick end', duration(Math.floor(zoom[1]))));
   at('whole').disabled = zoom[0] === 0 && zoom[1] === total;
   spans.paint();
 };
@@ -200,6 +210,7 @@ const describe = () => {
   for (const it of row.events) parts.push(facts([[since(it.timeUnixNano), it.name]]), texts(it.attributes));
   if (row.links.length) parts.push(make('h3', '', 'Links'));
   for (const it of row.links) parts.push(...linkParts(it));
+  if (row.resource) parts.push(...block('Resource', texts(row.resource)));
   at('said').replaceChildren(...parts);
   at('details').scrollTop = 0;
 };
@@ -210,8 +221,8 @@ const describe = () => {
 // resource of a row that does not say it, which is that before it.
 const prepare = () => {
   trace.first = BigInt(trace.startTimeUnixNano);
+  let resource = '';
   for (const row of trace.rows) {
-  if (row.resource) parts.push(...block('Resource', texts(row.resource)));
     row.resource ??= resource;
     resource = row.resource;
     const start = BigInt(row.startTimeUnixNano) || BigInt(row.endTimeUnixNano);
@@ -223,7 +234,6 @@ const prepare = () => {
 const mark = () => {
   const words = asked();
   const found = words.length ? trace.rows.flatMap((row, place) => (has(lowered(row), words) ? [place] : [])) : [];
-  let resource = '';
   matches = new Set(found);
   at('found').textContent = words.length ? found.length + ' found' : trace.spans + ' spans';
   spans.paint();

@@ -55,13 +55,17 @@ pub fn durations_are_cut()
         → shorter ≤ longer → shown_duration shorter ≤ shown_duration longer }
 {}
 
-/// A scale goes from the least start of its spans to their greatest moment, the later of a start and an end.
+/// A scale goes from the least start of its spans to their greatest moment, the later of a start and an end. A start of
+/// zero says that there is none; where no span has one, the scale is of one moment.
 pub fn scales_fit()
-    ensures holds { (marks : List Mark) (place : ℕ) → place < length marks
-        → (first_of marks ≤ (mark_at marks place).start)
-        × (max (mark_at marks place).start (mark_at marks place).end ≤ last_of marks) }
-    ensures begins { (marks : List Mark) → 0 < length marks
-        → (place : ℕ) × (place < length marks) × ((mark_at marks place).start ≡ first_of marks) }
+    ensures holds { (marks : List Mark) (place : ℕ) → place < length marks → 0 < (mark_at marks place).start
+        → first_of marks ≤ (mark_at marks place).start }
+    ensures follows { (marks : List Mark) (place : ℕ) → place < length marks
+        → max (mark_at marks place).start (mark_at marks place).end ≤ last_of marks }
+    ensures begins { (marks : List Mark) (place : ℕ) → place < length marks → 0 < (mark_at marks place).start
+        → (other : ℕ) × (other < length marks) × ((mark_at marks other).start ≡ first_of marks) }
     ensures ends { (marks : List Mark) → 0 < length marks → (place : ℕ) × (place < length marks)
         × (max (mark_at marks place).start (mark_at marks place).end ≡ last_of marks) }
+    ensures alone { (marks : List Mark) → ((place : ℕ) → place < length marks → (mark_at marks place).start ≡ 0)
+        → first_of marks ≡ last_of marks }
 {}

@@ -10,10 +10,11 @@
 //! before one whose parent is not in the picture, `@` and the service after it where a trace has several, and the kind
 //! where it is not internal. A name is cut by the columns that it takes, with an ellipsis. `·` in a bar is an event, `!`
 //! before it says that the span failed, and what went wrong stands on a line of its own, after `!`, as an exception does,
-//! after `*`, a link, after `>`, which stands before the name too, and what is odd, after `?`. Of a circle of parents the first span stands as a
-//! root.
+//! after `*`, a link, after `>`, which stands before the name too, and what is odd, after `?`. Of a circle of parents the
+//! first span stands as a root.
 #![tactic(auto)]
 
+mod axis;
 pub mod bar;
 pub mod choice;
 mod dates;

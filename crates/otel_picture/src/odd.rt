@@ -1,4 +1,5 @@
-//! What is odd about a span: a moment that is missing, an end before its start, a circle of parents.
+//! What is odd about a span: a moment that is missing, an end before its start, a circle of parents, an id that another
+//! has.
 
 ghost use Rattle.std.specs.Prelude.{◌≡◌, ◌<◌, ◌≤◌, OnOk, length};
 ghost use Rattle.opentelemetry.specs.Text.{TextGrows};
@@ -19,6 +20,8 @@ pub(crate) struct Odd {
     pub(crate) no_end: bool,
     pub(crate) is_backward: bool,
     pub(crate) in_circle: bool,
+    /// A span before it has its id.
+    pub(crate) comes_again: bool,
 }
 
 /// One where something is so.
@@ -39,6 +42,7 @@ impl Odd {
             + one_if(self.no_end)
             + one_if(self.is_backward)
             + one_if(self.in_circle)
+            + one_if(self.comes_again)
     }
 }
 
@@ -52,10 +56,11 @@ impl Sheet<'_> {
         let family = &self.trace.family;
         let mark = family.marks[row.span];
         Odd {
-            no_start: mark.start == 0,
+            no_start: self.span_of(row).start_time.0 == 0,
             no_end: mark.end == 0,
             is_backward: mark.end != 0 && mark.end < mark.start,
             in_circle: row.level == 0 && family.parents[row.span].is_some(),
+            comes_again: family.repeats[row.span],
         }
     }
 }
@@ -78,5 +83,11 @@ pub(crate) fn push_odd(text: &mut String, under: Under, odd: Odd) -> Result<(), 
     push_odd_line(text, under, odd.no_start, "no start")?;
     push_odd_line(text, under, odd.no_end, "no end")?;
     push_odd_line(text, under, odd.is_backward, "ends before it starts")?;
-    push_odd_line(text, under, odd.in_circle, "in a circle of parents")
+    push_odd_line(text, under, odd.in_circle, "in a circle of parents")?;
+    push_odd_line(
+        text,
+        under,
+        odd.comes_again,
+        "has the id of a span before it",
+    )
 }

@@ -25,12 +25,14 @@ ghost use Rattle.otel_picture.specs.RowTexts.{
   under_of,
   under_text,
 };
+ghost use Rattle.otel_picture.specs.Families.{begin_of};
 ghost use Rattle.otel_picture.specs.PlainSheets.{row_span, sheet_column};
 ghost use Rattle.otel_picture.specs.Sheets.{plain_sheet};
 
 use crate::bar::{Bar, self_times};
 use crate::details::Under;
 use crate::durations::push_duration;
+use crate::families::begin_of;
 use crate::odd::push_odd;
 use crate::rows::Row;
 use crate::sheet::{Sheet, is_error};
@@ -123,8 +125,8 @@ impl Sheet<'_> {
     /// A column of the bar of a span: a mark where an event happened.
     fn cell_of(&self, span: &ShownSpan, happens: bool, bar: Bar, column: u32) -> char
         requires happens { happens ≡ happens_in (plain_sheet self.now) span.now.events column }
-        requires begin { bar.begin ≡ sheet_column (plain_sheet self.now) span.now.start_time }
-        requires end { bar.end ≡ sheet_column (plain_sheet self.now) (max span.now.start_time span.now.end_time) }
+        requires begin { bar.begin ≡ sheet_column (plain_sheet self.now) (begin_of span.now) }
+        requires end { bar.end ≡ sheet_column (plain_sheet self.now) (max (begin_of span.now) span.now.end_time) }
         ensures { encode_utf8 result ≡ cell_text (plain_sheet self.now) span.now column }
     {
         if happens {
@@ -147,7 +149,8 @@ impl Sheet<'_> {
             (cells_text (plain_sheet self.now) span.now self.now.layout.bar) text.new) }
     {
         let happened = self.event_columns(alloc, &span.events)?;
-        let bar = self.scale.bar(span.start_time.0, span.end_time.0);
+        let begin = begin_of(span);
+        let bar = self.scale.bar(begin, span.end_time.0);
         for column in 0..self.layout.bar {
             let happens = happened[column as usize];
             text.push(self.cell_of(span, happens, bar, column))?;

@@ -9,7 +9,7 @@ ghost use Rattle.std.specs.Prelude.{◌≡◌, ◌<◌, All, IfOk, OnOk, vec_len
 ghost use Rattle.otel_picture.specs.Orders.{comes_before, start_at};
 ghost use Rattle.otel_picture.specs.Parents.{AreKnown, parent_of};
 ghost use Rattle.otel_picture.specs.Placed.{AreRows};
-ghost use Rattle.otel_picture.specs.Families.{parents_in};
+ghost use Rattle.otel_picture.specs.Families.{AreRepeats, parents_in};
 ghost use Rattle.otel_picture.specs.Turns.{put_all};
 
 use opentelemetry::SpanId;
@@ -23,7 +23,7 @@ pub struct Row {
 }
 
 /// What a picture takes of a span beside its texts: where it stands in order of export, and when it was, in nanoseconds
-/// since 1970.
+/// since 1970. One without a start is taken to start when it ends.
 #[derive(Clone, Copy, Debug, PartialEq, Eq)]
 pub struct Mark {
     pub place: usize,
@@ -33,14 +33,17 @@ pub struct Mark {
     pub end: u64,
 }
 
-/// The spans of a trace, and which one of them is the parent of each, in order of export.
+/// The spans of a trace, which one of them is the parent of each, and whether each has the id of one before it, in order
+/// of export.
 #[derive(Drop)]
 pub struct Family {
     pub marks: Vec<Mark>,
     pub parents: Vec<Option<usize>>,
+    pub repeats: Vec<bool>,
     ghost alike: { vec_len parents ≡ vec_len marks },
     ghost known: { AreKnown parents.items },
     ghost of_marks: { parents.items ≡ parents_in marks.items },
+    ghost repeated: { AreRepeats marks.items repeats.items },
 }
 
 impl Family {

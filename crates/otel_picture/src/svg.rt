@@ -1,5 +1,5 @@
 //! Pictures of traces as one SVG file of 960 units, without scripts, fonts or links. Its lines are 20 units high: of each
-//! trace a head, an axis with four ticks, a line a span, and an empty one. Names stand left of unit 310, bars from there
+//! trace a head, an axis, a line a span, and an empty one. Names stand left of unit 310, bars from there
 //! on over 460 units, offset and length after them. A service has one of eight colours; the bar of a span that
 //! failed is hollow, with an edge as dark as text, and `!` stands in front of it. Under a line stand exceptions and links.
 
@@ -17,28 +17,26 @@ ghost use Rattle.otel_picture.specs.SvgTexts.{
   svg_lines,
   svg_service,
   svg_text,
-  svg_tick,
-  svg_ticks,
   svg_trace,
   svg_traces,
 };
 ghost use Rattle.otel_picture.specs.Traces.{AllHaveSpans, plain_trace};
 
+use crate::axis::push_svg_axis;
 use crate::durations::push_duration;
 use crate::layout::Layout;
 use crate::sheet::Sheet;
-use crate::svg_parts::{down, line_after, push_label, push_line, push_page, push_root};
+use crate::svg_parts::{down, line_after, push_label, push_page, push_root};
 use crate::texts::push_cut;
 use crate::trace::Trace;
 use crate::traces::Traces;
-use crate::write_text::moment_at;
 use otel_shown::ShownSpan;
 use std::alloc::{AllocError, Global};
 
 const STYLE: &str = concat!(
     "<style>text{font:12px monospace;fill:#1b1b1b}.page{fill:#ffffff}.tick{stroke:#c9c9c9}.event{stroke:#1b1b1b;",
     "stroke-width:2}.s0{fill:#1f5fa8}.s1{fill:#2f7d32}.s2{fill:#8a4fb0}.s3{fill:#b06a00}.s4{fill:#00798c}",
-    ".s5{fill:#6b6b00}.s6{fill:#ad1f6b}.s7{fill:#4a5a78}",
+    ".s5{fill:#6b6b00}.s6{fill:#ad1f6b}.s7{fill:#4a5a78}.end{text-anchor:end}",
     ".error{fill-opacity:.25;stroke:#1b1b1b;stroke-width:2}.sign{fill:#c0160d;font-weight:bold}",
     "@media (prefers-color-scheme:dark){text{fill:#eeeeee}.page{fill:#121212}.tick{stroke:#444444}",
     ".event{stroke:#eeeeee}.s0{fill:#7fb4f0}.s1{fill:#7fcf85}.s2{fill:#c9a0e8}.s3{fill:#f0b860}.s4{fill:#6fd0de}",
@@ -67,45 +65,6 @@ impl Sheet<'_> {
         push_label(out, 10, down(line, 15), head.as_str())
     }
 
-    /// A tick of the axis: a line over all rows, and the moment where it stands.
-    fn push_svg_tick(
-        &self,
-        alloc: Global,
-        out: &mut String,
-        line: u64,
-        end: u64,
-        place: u32,
-    ) -> Result<(), AllocError>
-        requires { place ≤ 460 }
-        ensures { OnOk result (TextGrows out.old (svg_tick (plain_sheet self.now) line end place) out.new) }
-    {
-        push_line(out, 310 + u64::from(place), down(line, 6), down(end, 0))?;
-        let mut moment = String::new(alloc);
-        push_duration(
-            &mut moment,
-            moment_at(self.scale.last - self.scale.first, 460, place),
-        )?;
-        push_label(out, 313 + u64::from(place), down(line, 15), moment.as_str())
-    }
-
-    /// Four ticks.
-    fn push_svg_ticks(
-        &self,
-        alloc: Global,
-        out: &mut String,
-        line: u64,
-        end: u64,
-    ) -> Result<(), AllocError>
-        ensures { OnOk result (TextGrows out.old (svg_ticks (plain_sheet self.now) line end) out.new) }
-    {
-        self.push_svg_tick(alloc, out, line, end, 0)?;
-        self.push_svg_tick(alloc, out, line, end, 115)?;
-        self.push_svg_tick(alloc, out, line, end, 230)?;
-        self.push_svg_tick(alloc, out, line, end, 345)?;
-        out.push_str("\n")?;
-        Ok(())
-    }
-
     /// On the line after a head the service, where all spans have one.
     fn push_svg_service(&self, alloc: Global, out: &mut String, line: u64) -> Result<(), AllocError>
         ensures { OnOk result (TextGrows out.old (svg_service (plain_sheet self.now) line) out.new) }
@@ -121,7 +80,8 @@ impl Sheet<'_> {
         ensures { OnOk result (TextGrows out.old (svg_axis (plain_sheet self.now) line) out.new) }
     {
         let end = self.line_after_rows(line_after(line, 2));
-        self.push_svg_ticks(alloc, out, line_after(line, 1), end)
+        let duration = self.scale.last - self.scale.first;
+        push_svg_axis(alloc, out, duration, line_after(line, 1), end)
     }
 
     /// After that line one of each span.

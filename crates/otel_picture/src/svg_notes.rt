@@ -146,7 +146,14 @@ fn push_odd_notes(
     push_odd_note(alloc, out, indent, odd.no_start, "no start")?;
     push_odd_note(alloc, out, indent, odd.no_end, "no end")?;
     push_odd_note(alloc, out, indent, odd.is_backward, "ends before it starts")?;
-    push_odd_note(alloc, out, indent, odd.in_circle, "in a circle of parents")
+    push_odd_note(alloc, out, indent, odd.in_circle, "in a circle of parents")?;
+    push_odd_note(
+        alloc,
+        out,
+        indent,
+        odd.comes_again,
+        "has the id of a span before it",
+    )
 }
 
 /// Appends the lines under the row of a span.

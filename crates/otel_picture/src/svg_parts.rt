@@ -4,6 +4,7 @@ ghost use Rattle.std.specs.Prelude.{◌≡◌, OnOk};
 ghost use Rattle.opentelemetry.specs.Text.{TextGrows};
 ghost use Rattle.otel_picture.specs.SvgParts.{
   down,
+  end_label_svg,
   when_text,
   label_svg,
   line_after,
@@ -41,6 +42,24 @@ pub(crate) fn push_label(out: &mut String, x: u64, y: u64, label: &str) -> Resul
     ensures { OnOk result (TextGrows out.old (label_svg x y label.now) out.new) }
 {
     write!(out, "<text x=\"{x}\" y=\"{y}\" xml:space=\"preserve\">")?;
+    push_escaped(out, label)?;
+    out.push_str("</text>")
+}
+
+/// Appends a text that ends at a place.
+#[tactic(auto, unfolding(crate::specs::SvgParts::end_label_svg))]
+pub(crate) fn push_end_label(
+    out: &mut String,
+    x: u64,
+    y: u64,
+    label: &str,
+) -> Result<(), AllocError>
+    ensures { OnOk result (TextGrows out.old (end_label_svg x y label.now) out.new) }
+{
+    write!(
+        out,
+        "<text class=\"end\" x=\"{x}\" y=\"{y}\" xml:space=\"preserve\">"
+    )?;
     push_escaped(out, label)?;
     out.push_str("</text>")
 }

@@ -32,6 +32,7 @@ ghost use Rattle.otel_picture.specs.SvgTexts.{
 use crate::bar::Bar;
 use crate::details::link_of;
 use crate::durations::push_duration;
+use crate::families::begin_of;
 use crate::row_text::{kind_text, label_of};
 use crate::rows::Row;
 use crate::sheet::{Sheet, is_error};
@@ -103,7 +104,7 @@ fn push_whose(out: &mut String, span: &ShownSpan) -> Result<(), AllocError>
         return Ok(());
     }
     out.push_str("\n@")?;
-    out.push_str(span.service.as_str())
+    out.push_str(service)
 }
 
 /// Appends a link, as lines of a title.
@@ -245,7 +246,7 @@ impl Sheet<'_> {
     fn push_svg_sign(&self, out: &mut String, line: u64, span: &ShownSpan) -> Result<(), AllocError>
         ensures { OnOk result (TextGrows out.old (svg_sign (plain_sheet self.now) line span.now) out.new) }
     {
-        let x = self.svg_place(span.start_time.0) - 12;
+        let x = self.svg_place(begin_of(span)) - 12;
         push_sign_at(out, x, down(line, 15), &span.status)
     }
 
@@ -253,7 +254,8 @@ impl Sheet<'_> {
     fn push_svg_bar(&self, out: &mut String, line: u64, span: &ShownSpan) -> Result<(), AllocError>
         ensures { OnOk result (TextGrows out.old (svg_bar (plain_sheet self.now) line span.now) out.new) }
     {
-        let bar = self.scale.bar(span.start_time.0, span.end_time.0);
+        let begin = begin_of(span);
+        let bar = self.scale.bar(begin, span.end_time.0);
         out.push_str("<rect class=\"")?;
         push_class(out, span)?;
         push_bar_place(out, line, bar)?;

@@ -1,21 +1,17 @@
 //! Pictures of traces as text.
 
-ghost use Rattle.std.specs.Prelude.{◌≡◌, true, ◌<◌, ◌≤◌, ◌*◌, ◌/◌, All, IfOk, OnOk, length, map, string_bytes};
+ghost use Rattle.std.specs.Prelude.{◌≡◌, true, ◌<◌, IfOk, OnOk, map, string_bytes};
 ghost use Rattle.opentelemetry.specs.Text.{TextGrows};
 ghost use Rattle.otel_picture.specs.Drawn.{plain_traces};
 ghost use Rattle.otel_picture.specs.Layouts.{layout_with};
 ghost use Rattle.otel_picture.specs.RowTexts.{
   apart_text,
-  axis_text,
   errors_text,
   head_text,
   legend_text,
   picture_text,
   ruler_text,
   service_text,
-  tick_text,
-  ticks_in,
-  ticks_text,
   title_text,
   trace_text,
   traces_text,
@@ -24,72 +20,16 @@ ghost use Rattle.otel_picture.specs.PlainSheets.{errors_in};
 ghost use Rattle.otel_picture.specs.Sheets.{plain_sheet};
 ghost use Rattle.otel_picture.specs.Traces.{AllHaveSpans, plain_trace};
 
+use crate::axis::push_axis;
 use crate::durations::push_duration;
 use crate::layout::Layout;
 use crate::sheet::{Sheet, first_service};
-use crate::texts::{push_in_room, push_shown, push_times};
+use crate::texts::{push_in_room, push_shown};
 use crate::trace::Trace;
 use crate::traces::Traces;
 use otel_shown::ShownSpan;
 use std::alloc::{AllocError, Global};
 use std::fmt::Write;
-
-/// How many ticks an axis of so many columns has.
-fn ticks_in(columns: u32) -> u32
-    ensures is { result ≡ ticks_in columns }
-    ensures some { 0 < result }
-{
-    (columns / 12).min(8).max(3)
-}
-
-/// The moment at a place of an axis.
-pub(crate) fn moment_at(duration: u64, columns: u32, place: u32) -> u64
-    requires wide { 0 < columns }
-    requires within { place ≤ columns }
-    ensures { result ≡ duration * place / columns }
-{
-    let moment = u128::from(duration) * u128::from(place) / u128::from(columns);
-    moment as u64
-}
-
-/// A tick, and the moment where it stands, if there is room.
-fn push_tick(
-    alloc: Global,
-    text: &mut String,
-    duration: u64,
-    columns: u32,
-    cell: u32,
-    place: u32,
-) -> Result<(), AllocError>
-    requires wide { 0 < columns }
-    requires within { place ≤ columns }
-    ensures { OnOk result (TextGrows text.old (tick_text duration columns cell place) text.new) }
-{
-    if cell < 9 {
-        return push_in_room(text, "|", cell as usize);
-    }
-    let mut tick = String::from_str(alloc, "|")?;
-    push_duration(&mut tick, moment_at(duration, columns, place))?;
-    push_in_room(text, tick.as_str(), cell as usize)
-}
-
-/// The axis of bars.
-fn push_axis(
-    alloc: Global,
-    text: &mut String,
-    duration: u64,
-    columns: u32,
-) -> Result<(), AllocError>
-    requires { 0 < columns }
-    ensures { OnOk result (TextGrows text.old (axis_text duration columns) text.new) }
-{
-    let ticks = ticks_in(columns);
-    let cell = columns / ticks;
-    for tick in 0..ticks {
-        push_tick(alloc, text, duration, columns, cell, tick * cell)?;
-    }
-    push_times(text, ' ', (columns - ticks * cell) as usize)
-}
 
 /// What the numbers are.
 fn push_legend(text: &mut String, layout: Layout) -> Result<(), AllocError>

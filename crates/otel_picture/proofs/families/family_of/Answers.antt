@@ -8,7 +8,7 @@ use Rattle.otel_picture.proofs.families.family_of.Goals as goal
 pub invariant_of-result : goal.invariant_of-result
 invariant_of-result c =
     let marks = c.in_ok-marks.marks in
-    let is = rw c.deref.ensures.value at c.in_ok-parents.ensures in
+    let is = rw c.deref-2.ensures.value at c.in_ok-parents.ensures in
     record {
       alike = omega (
         arith,
@@ -19,4 +19,5 @@ invariant_of-result c =
       );
       known = known_of marks.items c.in_ok-parents.parents.items is;
       of_marks = is;
+      repeated = rw c.deref-3.ensures.value at c.in_ok-repeats.ensures;
     }

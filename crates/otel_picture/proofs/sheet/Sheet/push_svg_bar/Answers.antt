@@ -2,6 +2,7 @@
 use Rattle.std.proofs.Common.{◌≡◌, ◌+◌, ◌-◌, ◌++◌, ◌∙◌, ap, codes, max, string_bytes}
 use Rattle.otel_shown.specs.Shown.{PlainShownSpan}
 use Rattle.otel_picture.specs.Bars.{column}
+use Rattle.otel_picture.specs.Families.{begin_of}
 use Rattle.otel_picture.specs.PlainSheets.{sheet_column}
 use Rattle.otel_picture.specs.Sheets.{plain_sheet}
 use Rattle.otel_picture.specs.SvgParts.{down, place_svg}
@@ -14,19 +15,18 @@ returns c =
     let span = c.args.span.now in
     let line = c.args.line in
     let bar = c.bar-bar.result in
-    let begin = sheet_column (plain_sheet c.args.self.now) span.start_time in
-    let over = sheet_column (plain_sheet c.args.self.now) (max span.start_time span.end_time) in
     let sheet = plain_sheet c.args.self.now in
+    let scale = c.args.self.now.scale in
+    let begin = sheet_column sheet (begin_of span) in
+    let over = sheet_column sheet (max (begin_of span) span.end_time) in
     let from : bar.begin ≡ begin =
-    c.bar-bar.ensures.begin
-    ∙ ap (λ n. column c.args.self.now.scale.first c.args.self.now.scale.last n c.span.inside.start_time.0)
-    c.args.self.now.bars
-    ∙ ap (λ (s : PlainShownSpan). sheet_column sheet s.start_time) c.span.view_is in
+    c.bar-bar.ensures.begin ∙ ap (λ n. column scale.first scale.last n c.begin_of-begin.result) c.args.self.now.bars
+    ∙ ap (λ n. sheet_column sheet n) c.begin_of-begin.ensures in
     let to : bar.end ≡ over =
     c.bar-bar.ensures.end
-    ∙ ap (λ n. column c.args.self.now.scale.first c.args.self.now.scale.last n
-    (max c.span.inside.start_time.0 c.span.inside.end_time.0)) c.args.self.now.bars
-    ∙ ap (λ (s : PlainShownSpan). sheet_column sheet (max s.start_time s.end_time)) c.span.view_is in
+    ∙ ap (λ n. column scale.first scale.last n (max c.begin_of-begin.result c.span.inside.end_time.0)) c.args.self.now.bars
+    ∙ ap (λ n. sheet_column sheet (max n c.span.inside.end_time.0)) c.begin_of-begin.ensures
+    ∙ ap (λ (s : PlainShownSpan). sheet_column sheet (max (begin_of span) s.end_time)) c.span.view_is in
     let end = string_bytes c.push_bar_place.new.out in
     let so_far = string_bytes c.push_class.new.out in
     then_more (string_bytes c.args.out.now) (string_bytes c.push_str.new.self) end (codes "<rect class=\"")
