@@ -5,6 +5,7 @@ ghost use Rattle.opentelemetry.specs.TextMap.{texts_of};
 ghost use Rattle.otel_embed.specs.Headers.{AddsHeader, AreHeaders, IsContextOf, header_line, header_lines, plain_headers};
 
 use crate::headers::context_of;
+use crate::values::str_of;
 use opentelemetry::Context;
 use opentelemetry::propagation::{Extractor, Injector, MapCarrier};
 use std::alloc::{AllocError, Global};
@@ -45,7 +46,7 @@ fn set_header(
 ) -> Result<(), AllocError>
     ensures { OnOk result (AddsHeader name.now bytes.now (texts_of carrier.old) (texts_of carrier.new)) }
 {
-    match str::from_utf8(bytes) {
+    match str_of(bytes) {
         Ok(text) if !text.is_empty() => carrier.set(name, String::from_str(alloc, text)?),
         _ => Ok(()),
     }

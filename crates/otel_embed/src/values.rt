@@ -1,7 +1,8 @@
 //! What a host hands in, as the pipeline's own values: texts are bytes, and lists of texts one text with lengths.
 
-ghost use Rattle.std.specs.Prelude.{◌≡◌, ◌≤◌, ◌<◌, Err, IfOk, IsOk, map, string_bytes};
+ghost use Rattle.std.specs.Prelude.{◌≡◌, ◌≤◌, ◌<◌, Err, IfOk, IsOk, MatchResult, map, string_bytes};
 ghost use Rattle.std.specs.Option.{option_map};
+ghost use Rattle.std.specs.Str.{IsUtf8};
 ghost use Rattle.opentelemetry.specs.PlainValues.{plain_status, plain_value};
 ghost use Rattle.otel_embed.specs.HostValues.{AreTexts, IsStatus, IsValueOf, text_or_none, truth_of};
 
@@ -25,14 +26,22 @@ pub enum HostValue<'a> {
     Truths(&'a [u8]),
 }
 
+/// The bytes as a text, where they are one. Most are of ASCII, which takes a fifth of a check of UTF-8.
+pub(crate) fn str_of(bytes: &[u8]) -> Result<&str, PipelineError>
+    ensures { MatchResult result (λ text. text.now ≡ bytes.now)
+        (λ error. (error ≡ PipelineError.NotUtf8) × ¬ (IsUtf8 bytes.now)) }
+{
+    if bytes.is_ascii() {
+        return Ok(unsafe { str::from_utf8_unchecked(bytes) });
+    }
+    str::from_utf8(bytes).map_err(|_| PipelineError::NotUtf8)
+}
+
 /// The text that bytes are.
 pub(crate) fn text_of(alloc: Global, bytes: &[u8]) -> Result<String, PipelineError>
     ensures { IfOk result (λ text. string_bytes text ≡ bytes.now) }
 {
-    match str::from_utf8(bytes) {
-        Ok(text) => Ok(String::from_str(alloc, text)?),
-        Err(_) => Err(PipelineError::NotUtf8),
-    }
+    Ok(String::from_str(alloc, str_of(bytes)?)?)
 }
 
 /// The same; no bytes are no text.
