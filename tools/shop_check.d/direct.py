@@ -108,9 +108,9 @@ def lines(listener):
     """The lines of all parts as Google's protobuf reads them."""
     if not listener.size():
         run(listener, OTEL_SHOP_SPANS=listener.spans)
-    with open(listener.spans, "rb") as file:
-        how = {"capture_output": True, "env": environment(), "timeout": SECONDS, "check": False}
-        ran = subprocess.run([OTLP_CHECK], stdin=file, **how)
+    given = b"".join(it + b"\n" for it in listener.lines_since(0))
+    how = {"capture_output": True, "env": environment(), "timeout": SECONDS, "check": False}
+    ran = subprocess.run([OTLP_CHECK], input=given, **how)
     said = ran.stderr.decode(errors="replace")
     if ran.returncode == 2:
         raise LeftOut(said.strip())

@@ -48,9 +48,10 @@ class Listener:
         return os.path.getsize(self.spans) if os.path.exists(self.spans) else 0
 
     def lines_since(self, size):
-        """The lines that came to the file since it had this much."""
+        """The lines that came to the file since it had this much. A process that begins while another writes takes that
+        one's line for torn and ends it too, which leaves an empty line after it."""
         if not os.path.exists(self.spans):
             return []
         with open(self.spans, "rb") as file:
             file.seek(size)
-            return file.read().split(b"\n")[:-1]
+            return [it for it in file.read().split(b"\n")[:-1] if it]
